@@ -1,0 +1,1 @@
+// One ordered list for every kind of entry whose order is total.
