@@ -1,3 +1,4 @@
 pub mod Keys
 pub mod Masks
 pub mod Numbers
+pub mod Reaching

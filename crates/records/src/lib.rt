@@ -2,6 +2,7 @@
 pub mod fault; // why a call is turned down, an enum for each part, with its number
 pub mod mask; // sets of ports
 pub mod notice; // what is handed in, decided, and carried by a line
+pub mod reach; // which port can send to which
 pub mod stamp; // pairs and stamps, by which notices are ordered
 
 pub use fault::NetFault;
@@ -14,5 +15,6 @@ pub use notice::Decided;
 pub use notice::Handed;
 pub use notice::Notice;
 pub use notice::Record;
+pub use reach::Reach;
 pub use stamp::Pair;
 pub use stamp::Stamp;
