@@ -1,4 +1,6 @@
 // The events of a stream: the calls on a net, with their numbers as they came. Nothing is said of their range.
+ghost use Rattle.events.specs.Letters.{letterOf};
+ghost use mathlib.Core.Path.{_≡_};
 
 #[derive(Clone, Copy, PartialEq, Eq, Debug)]
 pub enum Event {
@@ -32,6 +34,22 @@ pub enum Event {
     Release {
         port: u8,
     },
+}
+
+impl Event {
+    // The letter by which the event is shown.
+    pub fn letter(self) -> char
+        ensures { λ r. ⌜ r ≡ letterOf self ⌝ }
+    {
+        match self {
+            Event::HandIn { .. } => 'H',
+            Event::Decide { .. } => 'D',
+            Event::Clear { .. } => 'C',
+            Event::Bring { .. } => 'B',
+            Event::Fetch { .. } => 'F',
+            Event::Release { .. } => 'R',
+        }
+    }
 }
 
 // What stands at a place of a stream: the first field has the masks of the reach table, each later one is an event.

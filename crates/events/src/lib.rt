@@ -1,5 +1,7 @@
-// Event streams: what a port's log or radio box says, as fields of bytes.
+// Event streams: what is handed to the program, and what a port's radio box sends and takes, as fields of bytes.
 pub mod event; // the events, one case for each tag
 pub mod reader; // reads a stream field by field
 
 pub use event::Event;
+pub use event::Field;
+pub use reader::Reader;

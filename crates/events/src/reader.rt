@@ -2,6 +2,7 @@
 ghost use Prim.Native.Nat.{ℕ, _+_, _≤_};
 ghost use Rattle.events.specs.Answers.{Answers};
 ghost use Rattle.events.specs.Fields.{at16, at32, sizeOf, eventOf, fieldFault, readAt};
+ghost use Rattle.std.specs.Options.{Cases as BySome};
 ghost use Rattle.std.specs.Results.{Cases};
 ghost use Rattle.std.specs.declared.option.Option.the-variants.{Some};
 ghost use lib.ListN.{length};
@@ -10,7 +11,8 @@ use crate::event::Event;
 use crate::event::Field;
 use records::fault::ReaderFault;
 
-const LONGEST: usize = 32768;
+// The longest stream that is read, in bytes.
+pub const LONGEST: usize = 32768;
 
 // The tag of the first field, which holds the table's masks.
 const TABLE: u8 = 16;
@@ -131,6 +133,7 @@ impl<'a> Reader<'a> {
     pub fn next(&mut self) -> Result<Option<Field<'a>>, ReaderFault>
         ensures stream { λ _. ⌜ now (now (self .exit) .stream) ≡ now (now (self .entry) .stream) ⌝ }
         ensures same { λ r. ⌜ Cases r (λ _. Unit {0}) (λ _. now (self .exit) ≡ now (self .entry)) ⌝ }
+        ensures onward { λ r. ⌜ Cases r (λ o. BySome o (Unit {0}) (λ _. now (self .entry) .place + 3 ≤ now (self .exit) .place)) (λ _. Unit {0}) ⌝ }
         ensures answers { λ r. ⌜ Answers (readAt (now (now (self .entry) .stream)) (now (self .entry) .place)) (now (self .entry) .place) (now (self .exit) .place) r ⌝ }
     {
         if self.stream.len() > LONGEST {
