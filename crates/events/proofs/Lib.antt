@@ -1,1 +1,4 @@
+pub mod FieldLaws
 pub mod Readings
+pub mod StreamLaws
+pub mod Values
