@@ -9,14 +9,14 @@ use lib.Pow.{shr-shr}
 use lib.ListN.{length, getD, drop}
 use native.Mathlib.Nat.{mod-eq-of-lt}
 use Rattle.std.proofs.shelf.Bits.{div-add-mod', div-below}
-use Rattle.std.proofs.shelf.Lists.{drop-more, drop-all}
+use Rattle.std.proofs.shelf.Lists.{drop-more, drop-all, getD-past}
 use Rattle.std.proofs.shelf.Tests.{cases-eq, ne-eqb}
 use Rattle.std.specs.declared.option.Option.{Option}
 use Rattle.std.specs.declared.option.Option.the-variants.{None, Some}
 use Rattle.events.specs.declared.event.Event.{Event}
 use Rattle.events.specs.declared.event.Event.the-variants.{HandIn, Decide, Clear, Bring, Fetch, Release}
 use Rattle.events.specs.Fields.{at16, at32, sizeOf, eventOf}
-use Rattle.events.specs.Writing.{be16, be32, each16, tagOf, valueOf, Fit}
+use Rattle.events.specs.Writing.{be16, be32, each16, tagOf, valueOf, eventBytes, Fit}
 
 -- each is below 256
 abbrev pub Bytes : List ℕ → Type 0
@@ -61,6 +61,18 @@ four (a ∷ b ∷ []) e = absurd (omega arith)
 four (a ∷ b ∷ c ∷ []) e = absurd (omega arith)
 four (a ∷ b ∷ c ∷ d ∷ []) e = refl
 four (a ∷ b ∷ c ∷ d ∷ x ∷ xs) e = absurd (omega arith)
+
+-- four numbers that fit, and no others
+pub four-fit : (xs : List ℕ) → length xs ≡ 4 → getD xs 0 0 < 2 ^ 16 → getD xs 1 0 < 2 ^ 16 → getD xs 2 0 < 2 ^ 16 → getD xs 3 0 < 2 ^ 16 → (i : ℕ) → getD xs i 0 < 2 ^ 16
+four-fit xs e p q r s zero = p
+four-fit xs e p q r s (suc zero) = q
+four-fit xs e p q r s (suc (suc zero)) = r
+four-fit xs e p q r s (suc (suc (suc zero))) = s
+four-fit xs e p q r s (suc (suc (suc (suc i)))) = subst (λ n. n < 2 ^ 16) (sym (getD-past xs (suc (suc (suc (suc i)))) 0 (omega arith))) (omega arith)
+
+-- the bytes of a decide, by its four cuts
+pub decide-bytes : (port number : ℕ) (cuts : List ℕ) → length cuts ≡ 4 → eventBytes (Decide port number cuts) ≡ 2 ∷ 0 ∷ 11 ∷ port ∷ (be16 number ++ (be16 (getD cuts 0 0) ++ (be16 (getD cuts 1 0) ++ (be16 (getD cuts 2 0) ++ be16 (getD cuts 3 0)))))
+decide-bytes port number cuts e = ap (λ xs. eventBytes (Decide port number xs)) (four cuts e)
 
 pub record Known (e : Event) : Type 0 where
   pub size : sizeOf (tagOf e) ≡ Some (length (valueOf e))
@@ -121,11 +133,7 @@ module _ (v : List ℕ) (b : Bytes v) where
   quad k = digits32 (getD v k 0) (getD v (k + 1) 0) (getD v (k + 2) 0) (getD v (k + 3) 0) (b k) (b (k + 1)) (b (k + 2)) (b (k + 3))
 
   each-fit : (i : ℕ) → getD (at16 v 3 ∷ at16 v 5 ∷ at16 v 7 ∷ at16 v 9 ∷ []) i 0 < 2 ^ 16
-  each-fit zero = fit16 3
-  each-fit (suc zero) = fit16 5
-  each-fit (suc (suc zero)) = fit16 7
-  each-fit (suc (suc (suc zero))) = fit16 9
-  each-fit (suc (suc (suc (suc i)))) = omega arith
+  each-fit = four-fit (at16 v 3 ∷ at16 v 5 ∷ at16 v 7 ∷ at16 v 9 ∷ []) refl (fit16 3) (fit16 5) (fit16 7) (fit16 9)
 
   told-hand-in : length v ≡ 12 → Told 1 v
   told-hand-in e = let r = row-is 12 0 v e in let q = quad 2 in let w = two 10 in record { tag = refl; value = cc; fit = (b 0, b 1, fit32 2, b 6, b 7, b 8, b 9, fit16 10) }

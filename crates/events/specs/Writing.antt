@@ -1,10 +1,8 @@
 -- How a table and events are written as a stream. Assumes nothing.
 use mathlib.Core.Path.{_≡_}
-use mathlib.Core.List.{List, [], _∷_, _++_, map}
+use mathlib.Core.List.{List, [], _∷_, _++_}
 use Prim.Native.Nat.{ℕ, _/_, _%_, _^_, _<_}
-use lib.ListN.{length, getD, take}
-use Rattle.std.specs.shelf.Lists.{All}
-use Rattle.records.specs.declared.mask.Mask.{Mask}
+use lib.ListN.{length, getD}
 use Rattle.events.specs.declared.event.Event.{Event}
 use Rattle.events.specs.declared.event.Event.the-variants.{HandIn, Decide, Clear, Bring, Fetch, Release}
 use Rattle.events.specs.Fields.{tableTag}
@@ -57,10 +55,6 @@ tableBytes masks = fieldOf tableTag masks
 -- the writing of a table and a list of events
 abbrev pub streamOf : List ℕ → List Event → List ℕ
 streamOf masks events = tableBytes masks ++ eventsBytes events
-
--- the masks of a table of so many ports, as bytes
-abbrev pub maskBytes : ℕ → List Mask → List ℕ
-maskBytes ports masks = map (λ m. m .bits) (take ports masks)
 
 -- each number of an event fits its place, as it does of every value that a program can hold
 abbrev pub Fit : Event → Type 0

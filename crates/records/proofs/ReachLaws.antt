@@ -1,16 +1,18 @@
 -- How a table fills, mask by mask, and why it is then sound. Assumes nothing.
 use mathlib.Core.Path.{_≡_, sym, ap, _∙_, subst}
 use mathlib.Core.Bool.{Bool, true, false}
-use mathlib.Core.List.{List}
+use mathlib.Core.List.{List, map}
 use mathlib.Core.Logic.{_⊎_, inl, inr, ⊎-elim, _≢_}
 use Prim.Native.Nat.{ℕ, _+_, _<_, _≤_}
 use native.Mathlib.Omega.{arith}
-use lib.ListN.{length, getD, set, replicate}
-use Rattle.std.proofs.shelf.Lists.{getD-set-same, getD-set-other, getD-past, getD-replicate}
+use lib.ListN.{length, getD, set, replicate, take}
+use Rattle.std.proofs.shelf.Lists.{getD-set-same, getD-set-other, getD-past, getD-replicate, getD-map, getD-take, length-map, length-take-le, ext-getD}
 use Rattle.std.proofs.shelf.Tests.{both-ways, cases-lt, cases-eq}
+use Rattle.records.specs.declared.fault.TableFault.{TableFault}
+use Rattle.records.specs.declared.fault.TableFault.the-variants.{WrongCount, WrongMask}
 use Rattle.records.specs.declared.mask.Mask.{Mask}
 use Rattle.records.specs.Masks.{named}
-use Rattle.records.specs.Reaching.{nobody, sends, Sound, Misnames, Holds}
+use Rattle.records.specs.Reaching.{nobody, sends, Sound, Misnames, Refuses, Holds, maskBytes}
 use Rattle.records.proofs.MaskLaws.{none-above, none-named}
 
 -- a byte that misnames nobody below 8 misnames nobody
@@ -55,3 +57,26 @@ module _ (bytes : List ℕ) (table : List Mask) where
         (lt, inside, λ e. f .clean p q lt (m, inl e)))
       (λ le. absurd (both-ways (sends table p q) (ap (λ b. named b q) (f .spare p le) ∙ none-named q) s))
       (cases-lt p (length bytes))
+
+-- ---- a table's masks as bytes
+
+module _ (ports : ℕ) (masks : List Mask) (eight : length masks ≡ 8) (few : ports ≤ 8) where
+  pub length-bytes : length (maskBytes ports masks) ≡ ports
+  length-bytes = length-map (take ports masks) (λ m. m .bits) ∙ length-take-le ports masks (omega arith)
+
+  pub byte-at : (p : ℕ) → p < ports → getD (maskBytes ports masks) p 0 ≡ getD masks p nobody .bits
+  byte-at p lt =
+      let len = length-take-le ports masks (omega arith) in
+      getD-map (λ m. m .bits) (take ports masks) p nobody 0 (omega arith) ∙ ap (λ m. m .bits) (getD-take ports masks p nobody lt)
+
+  -- what a table holds is what it was made from
+  pub holds-bytes : (bytes : List ℕ) → Holds bytes ports masks → maskBytes ports masks ≡ bytes
+  holds-bytes bytes h = ext-getD 0 (maskBytes ports masks) bytes (length-bytes ∙ h .count) (λ p lt. byte-at p (omega (arith, length-bytes)) ∙ h .each p)
+
+  -- the bytes of a sound table are refused by nothing
+  pub sound-bytes : 2 ≤ ports → Sound ports masks → (f : TableFault) → Refuses (maskBytes ports masks) f → ⊥
+  sound-bytes some ok WrongCount bad = ⊎-elim (λ lt. omega (arith, length-bytes)) (λ lt. omega (arith, length-bytes)) bad
+  sound-bytes some ok WrongMask (a, b, (p, q, lt, (named-so, out))) =
+      let in-table : p < ports = omega (arith, length-bytes) in
+      let s = ok p q (ap (λ m. named m q) (sym (byte-at p in-table)) ∙ named-so) in
+      ⊎-elim (s .2) (λ le. omega (arith, length-bytes, s .1)) out

@@ -7,7 +7,7 @@ use Rattle.records.specs.declared.fault.NetFault.the-variants.{NoSuchPort, Out
 use Rattle.records.specs.declared.fault.ReaderFault.{ReaderFault}
 use Rattle.records.specs.declared.fault.ReaderFault.the-variants.{StreamTooLong, LooseBytes, UnknownTag, MisplacedTag, WrongLength, MissingBytes}
 use Rattle.records.specs.declared.fault.OutputFault.{OutputFault}
-use Rattle.records.specs.declared.fault.OutputFault.the-variants.{MemoryTooShort}
+use Rattle.records.specs.declared.fault.OutputFault.the-variants as output
 
 abbrev pub tableNumber : TableFault → ℕ
 tableNumber WrongCount = 1
@@ -41,4 +41,5 @@ readerNumber WrongLength = 24
 readerNumber MissingBytes = 25
 
 abbrev pub outputNumber : OutputFault → ℕ
-outputNumber MemoryTooShort = 26
+outputNumber output.StreamTooLong = 20
+outputNumber output.MemoryTooShort = 26

@@ -1,10 +1,10 @@
 -- Which port can send to which, and the tables of it that cannot be. Assumes nothing.
 use mathlib.Core.Path.{_≡_}
 use mathlib.Core.Bool.{Bool, true}
-use mathlib.Core.List.{List}
+use mathlib.Core.List.{List, map}
 use mathlib.Core.Logic.{_⊎_}
 use Prim.Native.Nat.{ℕ, _<_, _≤_}
-use lib.ListN.{length, getD}
+use lib.ListN.{length, getD, take}
 use Rattle.records.specs.Masks.{named}
 use Rattle.records.specs.declared.mask.Mask.{Mask}
 use Rattle.records.specs.declared.fault.TableFault.{TableFault}
@@ -35,3 +35,7 @@ Refuses bytes WrongMask = (2 ≤ length bytes) × (length bytes ≤ 8) × ((p : 
 pub record Holds (bytes : List ℕ) (ports : ℕ) (masks : List Mask) : Type 0 where
   pub count : ports ≡ length bytes
   pub each : (p : ℕ) → getD masks p nobody .bits ≡ getD bytes p 0
+
+-- the masks of a table of so many ports, as bytes
+abbrev pub maskBytes : ℕ → List Mask → List ℕ
+maskBytes ports masks = map (λ m. m .bits) (take ports masks)

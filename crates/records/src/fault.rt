@@ -70,9 +70,11 @@ pub enum ReaderFault {
     MissingBytes,
 }
 
-// A text or a stream that is not written.
+// A stream or a printed line that is not written.
 #[derive(Clone, Copy, PartialEq, Eq, Debug)]
 pub enum OutputFault {
+    // the stream would be longer than 32,768 bytes
+    StreamTooLong,
     // the output memory is too short
     MemoryTooShort,
 }
@@ -134,6 +136,7 @@ impl OutputFault {
         ensures { λ r. ⌜ r ≡ outputNumber self ⌝ }
     {
         match self {
+            OutputFault::StreamTooLong => 20,
             OutputFault::MemoryTooShort => 26,
         }
     }
