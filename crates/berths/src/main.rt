@@ -32,7 +32,9 @@ fn print_next(rt: &LibcRuntime, reader: &mut Reader) -> io::Result<bool> {
 
 fn main(rt: LibcRuntime) -> io::Result<()> {
     let mut stream = Vec::new(rt.alloc());
-    rt.stdin().take(LONGEST as u64 + 1).read_to_end(&mut stream)?;
+    rt.stdin()
+        .take(LONGEST as u64 + 1)
+        .read_to_end(&mut stream)?;
     let mut reader = Reader::new(stream.as_slice());
     // a field has three bytes at least, so that the end comes before the calls run out
     for _ in 0..=stream.len() {

@@ -45,7 +45,7 @@ event-back p e rest later f =
     let v = valueOf e in
     let other : eqb t tableTag ≡ false = ne-eqb t tableTag (λ z. omega (arith, k .tag)) in
     let there : fieldFault (eqb p 0) t (length v) (length (v ++ rest)) ≡ None =
-      no-fault (eqb p 0) t (length v) (length (v ++ rest)) (ap (λ o. isSome o || eqb t tableTag) (k .size)) (ap (λ b. cond b (not (eqb t tableTag)) (eqb t tableTag)) (ne-eqb p 0 later) ∙ other) (right-length (sizeOf t) (length v) (k .size)) (fits v rest) in
+    no-fault (eqb p 0) t (length v) (length (v ++ rest)) (ap (λ o. isSome o || eqb t tableTag) (k .size)) (ap (λ b. cond b (not (eqb t tableTag)) (eqb t tableTag)) (ne-eqb p 0 later) ∙ other) (right-length (sizeOf t) (length v) (k .size)) (fits v rest) in
     let len : 3 + length v ≡ length (eventBytes e) = omega arith in
     head-back p t v rest (k .short)
     ∙ ap (λ o. readValue o p t (length v) (v ++ rest)) there
@@ -172,3 +172,30 @@ end-at p [] h = refl
 end-at p (t ∷ []) h = let z : _≡_ {A = ℕ} 0 1 = cc in absurd (omega arith)
 end-at p (t ∷ u ∷ []) h = let z : _≡_ {A = ℕ} 0 1 = cc in absurd (omega arith)
 end-at p (t ∷ u ∷ l ∷ v) h = absurd (never-end (fieldFault (eqb p 0) t (u * 256 + l) (length v)) p t (u * 256 + l) v h)
+
+-- ---- the first field alone is the table
+
+pub event-later : (bs : List ℕ) (e : Event) (q : ℕ) → readField 0 bs ≡ event e q → ⊥
+event-later [] e q h = let z : _≡_ {A = ℕ} 0 1 = cc in omega arith
+event-later (t ∷ []) e q h = let z : _≡_ {A = ℕ} 0 1 = cc in omega arith
+event-later (t ∷ u ∷ []) e q h = let z : _≡_ {A = ℕ} 0 1 = cc in omega arith
+event-later (t ∷ u ∷ l ∷ v) e q h =
+    let n = u * 256 + l in
+    let x = valued (fieldFault true t n (length v)) 0 t n v e q h in
+    both-ways (eqb t tableTag) (x .other) (not-false (eqb t tableTag) (passed true t n (length v) (x .clean) .placed))
+
+pub end-later : (bs : List ℕ) → readField 0 bs ≡ end → ⊥
+end-later [] h = let z : _≡_ {A = ℕ} 0 1 = cc in omega arith
+end-later (t ∷ []) h = let z : _≡_ {A = ℕ} 0 1 = cc in omega arith
+end-later (t ∷ u ∷ []) h = let z : _≡_ {A = ℕ} 0 1 = cc in omega arith
+end-later (t ∷ u ∷ l ∷ v) h = never-end (fieldFault true t (u * 256 + l) (length v)) 0 t (u * 256 + l) v h
+
+pub table-first : (p : ℕ) (bs masks : List ℕ) (q : ℕ) → readField p bs ≡ table masks q → (p ≡ 0 → ⊥) → ⊥
+table-first p [] masks q h ne = let bad = sym (cond-false (eqb p 0) (refused LooseBytes) end (ne-eqb p 0 ne)) ∙ h in let z : _≡_ {A = ℕ} 0 1 = cc in omega arith
+table-first p (t ∷ []) masks q h ne = let z : _≡_ {A = ℕ} 0 1 = cc in omega arith
+table-first p (t ∷ u ∷ []) masks q h ne = let z : _≡_ {A = ℕ} 0 1 = cc in omega arith
+table-first p (t ∷ u ∷ l ∷ v) masks q h ne =
+    let n = u * 256 + l in
+    let x = tabled (fieldFault (eqb p 0) t n (length v)) p t n v masks q h in
+    let c = passed (eqb p 0) t n (length v) (x .0) in
+    both-ways (eqb t tableTag) (ap (λ b. cond b (not (eqb t tableTag)) (eqb t tableTag)) (sym (ne-eqb p 0 ne)) ∙ c .placed) (eq-eqb t tableTag (x .1))

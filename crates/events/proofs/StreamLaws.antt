@@ -14,10 +14,10 @@ use Rattle.records.specs.declared.fault.TableFault.the-variants.{WrongCount}
 use Rattle.events.specs.declared.event.Event.{Event}
 use Rattle.events.specs.Fields.{Reading, table, event, end, refused, readField, readAt, longest}
 use Rattle.events.specs.Writing.{eventBytes, eventsBytes, tableBytes, streamOf, Fit}
-use Rattle.events.specs.Streams.{Says, none, more, IsTable, Accepted}
+use Rattle.events.specs.Streams.{Says, none, more, IsTable, Accepted, FirstTable, SaysRest, ReadWhole}
 use Rattle.events.proofs.Values.{Bytes}
 use Rattle.events.proofs.Readings.{too-long, not-long, field-end}
-use Rattle.events.proofs.FieldLaws.{Written, event-back, table-back, event-at, table-at, end-at}
+use Rattle.events.proofs.FieldLaws.{Written, event-back, table-back, event-at, table-at, end-at, event-later, end-later, table-first}
 
 -- ---- what is written is accepted
 
@@ -59,11 +59,33 @@ written-accepted masks es ok fit short =
       ends = rest .2;
     }
 
+-- one event more
+pub says-more : (s : List ℕ) (p q r : ℕ) (es : List Event) (e : Event) → Says s p es q → readAt s q ≡ event e r → Says s p (es ++ (e ∷ [])) r
+says-more s p q r [] e (none p') h = more p r r e [] h (none r)
+says-more s p q r (x ∷ es) e (more p' k q' x' es' f rest) h = more p k r x (es ++ (e ∷ [])) f (says-more s k q r es e rest h)
+
 -- ---- what is accepted was written
 
 -- what is read is not too long
 pub read-short : (s : List ℕ) (p : ℕ) (x : Reading) → readAt s p ≡ x → (x ≡ refused StreamTooLong → ⊥) → length s ≤ longest
 read-short s p x h ne = ⊎-elim (λ lt. absurd (ne (sym h ∙ too-long s p lt))) (λ le. le) (cases-lt longest (length s))
+
+-- what the first call and a later one can find
+module _ (s : List ℕ) (p : ℕ) where
+  pub first-no-event : (e : Event) (q : ℕ) → p ≡ 0 → readAt s p ≡ event e q → ⊥
+  first-no-event e q z h =
+      let short = read-short s p (event e q) h (λ bad. let y : _≡_ {A = ℕ} 0 1 = cc in omega arith) in
+      event-later (drop p s) e q (ap (λ k. readField k (drop p s)) (sym z) ∙ sym (not-long s p short) ∙ h)
+
+  pub first-no-end : p ≡ 0 → readAt s p ≡ end → ⊥
+  first-no-end z h =
+      let short = read-short s p end h (λ bad. let y : _≡_ {A = ℕ} 0 1 = cc in omega arith) in
+      end-later (drop p s) (ap (λ k. readField k (drop p s)) (sym z) ∙ sym (not-long s p short) ∙ h)
+
+  pub later-no-table : (masks : List ℕ) (q : ℕ) → 0 < p → readAt s p ≡ table masks q → ⊥
+  later-no-table masks q lt h =
+      let short = read-short s p (table masks q) h (λ bad. let y : _≡_ {A = ℕ} 0 1 = cc in omega arith) in
+      table-first p (drop p s) masks q (sym (not-long s p short) ∙ h) (λ z. omega arith)
 
 bytes-drop : (p : ℕ) (s : List ℕ) → Bytes s → Bytes (drop p s)
 bytes-drop p s b k = subst (λ x. x < 256) (sym (getD-drop p s k 0)) (b (p + k))
@@ -121,3 +143,16 @@ same-accepted s masks masks' es es' a a' =
     let both = sym (a .first) ∙ a' .first in
     let place : a .behind ≡ a' .behind = cc in
     (cc, same-says s (a .behind) (a .last) (a' .last) es es' (a .says) (a .ends) (subst (λ k. Says s k es' (a' .last)) (sym place) (a' .says)) (a' .ends))
+
+pub read-whole : (s masks : List ℕ) (es : List Event) → Bytes s → Accepted s masks es → ReadWhole s masks es
+read-whole s masks es b a =
+    let short = read-short s 0 (table masks (a .behind)) (a .first) (λ bad. let z : _≡_ {A = ℕ} 0 1 = cc in omega arith) in
+    record {
+      accepted = a;
+      written = accepted-written s masks es b a .0;
+      only = λ masks' es' ok fit e. same-accepted s masks' masks es' es (subst (λ t. Accepted t masks' es') e (written-accepted masks' es' ok fit (omega (arith, ap length e)))) a;
+    }
+
+-- a table, the events behind it and the end are an accepted stream
+pub accepted-from : (s masks : List ℕ) (es : List Event) (behind : ℕ) → FirstTable s masks behind → SaysRest s behind es → Accepted s masks es
+accepted-from s masks es behind t r = record { behind = behind; last = r .last; first = t .first; sound = t .sound; says = r .says; ends = r .ends }

@@ -60,7 +60,23 @@ fn encode(event: Event) -> Encoded
         } => {
             let [r0, r1, r2, r3] = reading.to_be_bytes();
             let [v0, v1] = vessel.to_be_bytes();
-            let bytes = [1, 0, 12, port, dispatcher, r0, r1, r2, r3, mask, home, berth, action, v0, v1];
+            let bytes = [
+                1,
+                0,
+                12,
+                port,
+                dispatcher,
+                r0,
+                r1,
+                r2,
+                r3,
+                mask,
+                home,
+                berth,
+                action,
+                v0,
+                v1,
+            ];
             Encoded { bytes, len: 15 }
         }
         Event::Decide { port, number, cuts } => encode_decide(port, number, &cuts),

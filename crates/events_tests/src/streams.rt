@@ -70,8 +70,14 @@ fn lengths_of_events() -> Result<(), Fail> {
     check_eq(verdict(&[16, 0, 2, 2, 1, 5, 0, 1, 0, 0]), (5, 24))?;
     check_eq(verdict(&[16, 0, 2, 2, 1, 4, 0, 3, 0, 0, 0]), (5, 24))?;
     check_eq(verdict(&[16, 0, 2, 2, 1, 3, 0, 4, 0, 0, 0, 0]), (5, 24))?;
-    check_eq(verdict(&[16, 0, 2, 2, 1, 2, 0, 12, 0, 0, 0, 0, 0, 0, 0, 0, 0, 0, 0, 0]), (5, 24))?;
-    check_eq(verdict(&[16, 0, 2, 2, 1, 1, 0, 11, 0, 0, 0, 0, 0, 0, 0, 0, 0, 0, 0]), (5, 24))?;
+    check_eq(
+        verdict(&[16, 0, 2, 2, 1, 2, 0, 12, 0, 0, 0, 0, 0, 0, 0, 0, 0, 0, 0, 0]),
+        (5, 24),
+    )?;
+    check_eq(
+        verdict(&[16, 0, 2, 2, 1, 1, 0, 11, 0, 0, 0, 0, 0, 0, 0, 0, 0, 0, 0]),
+        (5, 24),
+    )?;
     // a wrong length is found before missing bytes
     check_eq(verdict(&[16, 0, 2, 2, 1, 6, 0, 2]), (5, 24))?;
     check_eq(verdict(&[16, 0, 2, 2, 1, 1, 255, 255]), (5, 24))
@@ -79,8 +85,14 @@ fn lengths_of_events() -> Result<(), Fail> {
 
 #[test]
 fn missing_bytes() -> Result<(), Fail> {
-    check_eq(verdict(&[16, 0, 2, 2, 1, 1, 0, 12, 0, 0, 0, 0, 0, 0, 0, 0, 0, 0, 0]), (5, 25))?;
-    check_eq(verdict(&[16, 0, 2, 2, 1, 1, 0, 12, 0, 0, 0, 0, 0, 0, 0, 0, 0, 0, 0, 0]), (20, 0))?;
+    check_eq(
+        verdict(&[16, 0, 2, 2, 1, 1, 0, 12, 0, 0, 0, 0, 0, 0, 0, 0, 0, 0, 0]),
+        (5, 25),
+    )?;
+    check_eq(
+        verdict(&[16, 0, 2, 2, 1, 1, 0, 12, 0, 0, 0, 0, 0, 0, 0, 0, 0, 0, 0, 0]),
+        (20, 0),
+    )?;
     check_eq(verdict(&[16, 0, 2, 2, 1, 3, 0, 5, 0, 0, 0, 0]), (5, 25))?;
     check_eq(verdict(&[16, 0, 2, 2, 1, 3, 0, 5, 0, 0, 0, 0, 0]), (13, 0))?;
     // masks that are not there are missing before they are too many

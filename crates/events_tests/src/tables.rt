@@ -1,7 +1,7 @@
 // Which masks make a reach table, and which refusal the others meet.
+use records::mask::Mask;
 use records::mask::MaskDebug;
 use records::mask::MaskPartialEq;
-use records::mask::Mask;
 use records::reach::Reach;
 use std::test::*;
 

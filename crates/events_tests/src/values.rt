@@ -20,7 +20,9 @@ fn second(stream: &[u8]) -> Option<Event> {
 fn the_first_field_has_the_masks() -> Result<(), Fail> {
     let mut reader = Reader::new(&[16, 0, 3, 6, 5, 3, 6, 0, 1, 2]);
     match reader.next() {
-        Ok(Some(Field::Table(masks))) => check(masks.len() == 3 && masks[0] == 6 && masks[1] == 5 && masks[2] == 3)?,
+        Ok(Some(Field::Table(masks))) => check(
+            masks.len() == 3 && masks[0] == 6 && masks[1] == 5 && masks[2] == 3,
+        )?,
         _ => return Err(Fail::new("no table")),
     }
     check_eq(reader.place(), 6)
@@ -28,7 +30,30 @@ fn the_first_field_has_the_masks() -> Result<(), Fail> {
 
 #[test]
 fn hand_in() -> Result<(), Fail> {
-    let told = second(&[16, 0, 2, 2, 1, 1, 0, 12, 3, 4, 1, 2, 3, 4, 5, 6, 7, 8, 9, 10]);
+    let told = second(
+        &[
+            16,
+            0,
+            2,
+            2,
+            1,
+            1,
+            0,
+            12,
+            3,
+            4,
+            1,
+            2,
+            3,
+            4,
+            5,
+            6,
+            7,
+            8,
+            9,
+            10,
+        ],
+    );
     let hand_in = Event::HandIn {
         port: 3,
         dispatcher: 4,
@@ -41,7 +66,30 @@ fn hand_in() -> Result<(), Fail> {
     };
     check_eq(told, Some(hand_in))?;
     check_eq(hand_in.letter(), 'H')?;
-    let largest = second(&[16, 0, 2, 2, 1, 1, 0, 12, 255, 255, 255, 255, 255, 255, 255, 255, 255, 255, 255, 255]);
+    let largest = second(
+        &[
+            16,
+            0,
+            2,
+            2,
+            1,
+            1,
+            0,
+            12,
+            255,
+            255,
+            255,
+            255,
+            255,
+            255,
+            255,
+            255,
+            255,
+            255,
+            255,
+            255,
+        ],
+    );
     let all = Event::HandIn {
         port: 255,
         dispatcher: 255,
@@ -57,7 +105,29 @@ fn hand_in() -> Result<(), Fail> {
 
 #[test]
 fn decide() -> Result<(), Fail> {
-    let told = second(&[16, 0, 2, 2, 1, 2, 0, 11, 1, 0, 2, 0, 3, 1, 4, 2, 5, 255, 255]);
+    let told = second(
+        &[
+            16,
+            0,
+            2,
+            2,
+            1,
+            2,
+            0,
+            11,
+            1,
+            0,
+            2,
+            0,
+            3,
+            1,
+            4,
+            2,
+            5,
+            255,
+            255,
+        ],
+    );
     let decide = Event::Decide {
         port: 1,
         number: 2,
@@ -90,6 +160,12 @@ fn the_short_ones() -> Result<(), Fail> {
     check_eq(second(&[16, 0, 2, 2, 1, 6, 0, 1, 9]), Some(release))?;
     check_eq(release.letter(), 'R')?;
     // no range is looked at: a port 0 and a port 255 are read alike
-    check_eq(second(&[16, 0, 2, 2, 1, 6, 0, 1, 0]), Some(Event::Release { port: 0 }))?;
-    check_eq(second(&[16, 0, 2, 2, 1, 6, 0, 1, 255]), Some(Event::Release { port: 255 }))
+    check_eq(
+        second(&[16, 0, 2, 2, 1, 6, 0, 1, 0]),
+        Some(Event::Release { port: 0 }),
+    )?;
+    check_eq(
+        second(&[16, 0, 2, 2, 1, 6, 0, 1, 255]),
+        Some(Event::Release { port: 255 }),
+    )
 }

@@ -52,9 +52,9 @@ module _ (bytes : List ℕ) (table : List Mask) where
   pub filled-sound : Filled bytes table (length bytes) → Sound (length bytes) table
   filled-sound f p q s =
       ⊎-elim (λ lt.
-        let m : named (getD bytes p 0) q ≡ true = ap (λ b. named b q) (sym (f .copied p lt)) ∙ s in
-        let inside : q < length bytes = ⊎-elim (λ a. a) (λ le. absurd (f .clean p q lt (m, inr le))) (cases-lt q (length bytes)) in
-        (lt, inside, λ e. f .clean p q lt (m, inl e)))
+      let m : named (getD bytes p 0) q ≡ true = ap (λ b. named b q) (sym (f .copied p lt)) ∙ s in
+      let inside : q < length bytes = ⊎-elim (λ a. a) (λ le. absurd (f .clean p q lt (m, inr le))) (cases-lt q (length bytes)) in
+      (lt, inside, λ e. f .clean p q lt (m, inl e)))
       (λ le. absurd (both-ways (sends table p q) (ap (λ b. named b q) (f .spare p le) ∙ none-named q) s))
       (cases-lt p (length bytes))
 

@@ -15,8 +15,7 @@ loop-port-again c =
     let bytes = c .loop-port .bytes in
     let len = length-bytes (t .ports) (t .masks) (t .places) (t .count .1) in
     let few = t .count .1 in
-    let is : c .mask .result .bits ≡ getD masks i 0 = ap (λ m. m .bits) (c .mask .ensures) ∙ sym (byte-at (t .ports) (t .masks) (t .places) few i (omega (arith, c .ports-ports .ensures))) in
-    (
+    let is : c .mask .result .bits ≡ getD masks i 0 = ap (λ m. m .bits) (c .mask .ensures) ∙ sym (byte-at (t .ports) (t .masks) (t .places) few i (omega (arith, c .ports-ports .ensures))) in (
       length-set bytes (3 + i) (c .mask .result .bits) ∙ c .loop-port .inv .0,
       ap (λ b. take (3 + (i + 1)) (set bytes (3 + i) b)) is ∙ mask-more bytes masks (c .ports-ports .result) i (c .loop-port .inv .0) (omega (arith, c .ports-ports .ensures)) (omega (arith, c .ports-ports .ensures)) (c .loop-port .inv .1),
     )

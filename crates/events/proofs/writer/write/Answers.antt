@@ -57,8 +57,7 @@ loop-event-again c =
     let last = c .put-at-in-loop-event .last .out in
     let r = c .put-at-in-loop-event .result in
     let end : r ≡ c .loop-event .at + length (eventBytes e) = c .put-at-in-loop-event .ensures .end ∙ ap (λ k. c .loop-event .at + k) (c .encode .ensures .len .0) in
-    let after : last ≡ take (c .loop-event .at) (c .loop-event .out) ++ (eventBytes e ++ drop r (c .loop-event .out)) = c .put-at-in-loop-event .ensures .after ∙ ap (λ w. take (c .loop-event .at) (c .loop-event .out) ++ (w ++ drop r (c .loop-event .out))) (c .encode .ensures .bytes) in
-    (
+    let after : last ≡ take (c .loop-event .at) (c .loop-event .out) ++ (eventBytes e ++ drop r (c .loop-event .out)) = c .put-at-in-loop-event .ensures .after ∙ ap (λ w. take (c .loop-event .at) (c .loop-event .out) ++ (w ++ drop r (c .loop-event .out))) (c .encode .ensures .bytes) in (
       end ∙ ap (λ k. k + length (eventBytes e)) (c .loop-event .inv .0) ∙ sym (stream-length-more masks es i lt),
       next-put start (streamOf masks (take i es)) (eventBytes e) (c .loop-event .out) last (c .loop-event .at) r (c .loop-event .inv .0) (c .loop-event .inv .1) end after ∙ ap (λ w. w ++ drop r start) (sym (stream-more masks es i lt)),
       subst (All Fit) (sym (take-more es i no-event lt)) (all-push Fit (take i es) e (c .loop-event .inv .2) (c .encode .ensures .fit)),
