@@ -5,3 +5,5 @@ mod streams; // where and by which number a stream is refused
 mod tables; // which masks make a reach table
 #[cfg(test)]
 mod values; // which event a field says
+#[cfg(test)]
+mod writing; // what is written, and read back
