@@ -1,7 +1,7 @@
 // The ordered list over memory that the caller owns: the first `len` places hold the entries, and the rest is spare.
 ghost use Prim.Native.Nat.{ℕ, _+_, _<_, _≤_};
 ghost use Rattle.ordered.specs.Lists.{Insertion, Put, Taken, Taking};
-ghost use Rattle.ordered.specs.Orders.{placeOf};
+ghost use Rattle.ordered.specs.Orders.{Place};
 ghost use lib.ListN.{length, take};
 ghost use mathlib.Core.List.{_∷_};
 ghost use mathlib.Core.Path.{_≡_};
@@ -11,10 +11,9 @@ use crate::entry::Entry;
 #[derive(Clone, Copy, PartialEq, Eq, Debug)]
 pub struct Full;
 
-// How many entries stand in front of the first that `x` is before.
+// The place of the first entry that `x` is before, or the place behind them all.
 fn place<T: Entry>(entries: &[T], x: &T) -> usize
-    ensures value { λ r. ⌜ r ≡ placeOf before (now (x .entry)) (now (entries .entry)) ⌝ }
-    ensures within { λ r. ⌜ r ≤ length (now (entries .entry)) ⌝ }
+    ensures { λ r. ⌜ Place before (now (x .entry)) (now (entries .entry)) r ⌝ }
 {
     for (i, e) in entries.iter().enumerate() {
         if x.is_before(e) {
@@ -39,8 +38,7 @@ fn push_front<T: Copy>(places: &mut [T], x: T)
 // Puts `x` at its place `at`; the entries from there on move one place on.
 fn put<T: Entry>(places: &mut [T], len: usize, at: usize, x: T)
     requires room { ⌜ len < length (now places) ⌝ }
-    requires within { ⌜ at ≤ len ⌝ }
-    requires place { ⌜ at ≡ placeOf before x (take len (now places)) ⌝ }
+    requires place { ⌜ Place before x (take len (now places)) at ⌝ }
     ensures { λ _. ⌜ Put key before x len at (now (places .entry)) (now (places .exit)) ⌝ }
 {
     push_front(&mut places[at..len + 1], x);
