@@ -16,6 +16,10 @@ pub record Line : Type 0 where
 abbrev pub Lines : Type 0
 Lines = ℕ → ℕ → Line
 
+-- a line that holds nothing
+abbrev pub emptyLine : Line
+emptyLine = record { held = []; arrived = 0 }
+
 -- there is a line from p to q: different ports from 0 to 7
 abbrev pub isLine : ℕ → ℕ → Bool
 isLine p q = ltb p 8 && (ltb q 8 && not (eqb p q))
@@ -70,6 +74,6 @@ pub record Brought (old new : Lines) (a b : ℕ) : Type 0 where
   pub arrived : old a b .arrived ≤ new a b .arrived
   pub others : SameBut old new a b
 
--- every line is empty
+-- every line is empty, so nothing has arrived
 abbrev pub Emptied : Lines → Type 0
-Emptied new = (p q : ℕ) → new p q .held ≡ []
+Emptied new = (p q : ℕ) → new p q ≡ emptyLine
