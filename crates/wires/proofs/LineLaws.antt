@@ -7,14 +7,12 @@ use Prim.Native.Nat.{ℕ, _<_}
 use native.Mathlib.Omega.{arith}
 use lib.Dec.{eqb, ltb}
 use lib.ListN.{length}
-use Rattle.std.specs.Results.{Cases}
 use Rattle.std.specs.declared.result.Result.{Result}
 use Rattle.std.specs.declared.result.Result.the-variants.{Ok, Err}
 use Rattle.std.proofs.shelf.Tests.{cases-eq, cases-bool, cond-true, cond-false, and-parts, ltb-true, eqb-false, not-true}
 use Rattle.records.specs.declared.fault.NetFault.{NetFault}
-use Rattle.records.specs.declared.fault.NetFault.the-variants.{LineFull}
 use Rattle.records.specs.declared.notice.Record.{Record}
-use Rattle.wires.specs.Lines.{Line, Lines, isLine, depthOf, Same, SameBut, Put, Refused}
+use Rattle.wires.specs.Lines.{Line, Lines, isLine, depthOf, Same, SameBut, Put, PutAnswers}
 
 -- the two ports of a line
 pub line-ports : (p q : ℕ) → isLine p q ≡ true → (p < 8) × (q < 8) × (p ≡ q → ⊥)
@@ -24,7 +22,7 @@ line-ports p q e =
     (ltb-true p 8 (a .0), ltb-true q 8 (b .0), eqb-false p q (not-true (eqb p q) (b .1)))
 
 -- a `put` on a line with space was done
-pub put-since-space : {X : Type 0} (d : ℕ) (old new : Lines) (a b : ℕ) (x : Record) (r : Result X NetFault) → Cases r (λ _. Put d old new a b x) (λ f. (f ≡ LineFull) × Refused d old new a b) → length (old a b .held) < depthOf d a b → Put d old new a b x
+pub put-since-space : {X : Type 0} (d : ℕ) (old new : Lines) (a b : ℕ) (x : Record) (r : Result X NetFault) → PutAnswers d old new a b x r → length (old a b .held) < depthOf d a b → Put d old new a b x
 put-since-space d old new a b x (Ok y) h l = h
 put-since-space d old new a b x (Err y) h l = absurd (omega (arith, h .1 .full))
 

@@ -5,6 +5,10 @@ use mathlib.Core.List.{List, [], _∷_, _++_}
 use Prim.Native.Nat.{ℕ, _≤_, _<_}
 use lib.Dec.{eqb}
 use lib.ListN.{length}
+use Rattle.std.specs.Results.{Cases}
+use Rattle.std.specs.declared.result.Result.{Result}
+use Rattle.records.specs.declared.fault.NetFault.{NetFault}
+use Rattle.records.specs.declared.fault.NetFault.the-variants.{LineFull}
 use Rattle.records.specs.Masks.{named}
 use Rattle.records.specs.declared.notice.Record.{Record}
 use Rattle.wires.specs.Lines.{Lines, depthOf}
@@ -32,6 +36,11 @@ pub record Sent (depth : ℕ) (old new : Lines) (a mask : ℕ) (x : Record) : Ty
   pub space : (q : ℕ) → named mask q ≡ true → length (old a q .held) < depthOf depth a q
   pub lines : Grown old new (toEach a mask x)
 
--- the line from a to one of the ports that the mask names is full
-abbrev pub Unsent : ℕ → Lines → ℕ → ℕ → Type 0
-Unsent depth old a mask = (q : ℕ) × (named mask q ≡ true) × (depthOf depth a q ≤ length (old a q .held))
+-- the line from a to one of the ports that the mask names is full, and the wire, of whatever kind, did not change
+pub record Unsent {W : Type 0} (line : W → Lines) (depth : ℕ) (old new : W) (a mask : ℕ) : Type 0 where
+  pub full : (q : ℕ) × (named mask q ≡ true) × (depthOf depth a q ≤ length (line old a q .held))
+  pub same : new ≡ old
+
+-- what `send` answers: done, or refused with 15
+abbrev pub SendAnswers : {U W : Type 0} → (W → Lines) → ℕ → W → W → ℕ → ℕ → Record → Result U NetFault → Type 0
+SendAnswers line depth old new a mask x r = Cases r (λ _. Sent depth (line old) (line new) a mask x) (λ f. (f ≡ LineFull) × Unsent line depth old new a mask)

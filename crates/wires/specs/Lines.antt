@@ -5,6 +5,12 @@ use mathlib.Core.List.{List, [], _∷_, _++_}
 use Prim.Native.Nat.{ℕ, _+_, _≤_, _<_}
 use lib.Dec.{eqb, ltb}
 use lib.ListN.{length}
+use Rattle.std.specs.Options.{Cases as BySome}
+use Rattle.std.specs.Results.{Cases}
+use Rattle.std.specs.declared.option.Option.{Option}
+use Rattle.std.specs.declared.result.Result.{Result}
+use Rattle.records.specs.declared.fault.NetFault.{NetFault}
+use Rattle.records.specs.declared.fault.NetFault.the-variants.{LineFull}
 use Rattle.records.specs.declared.notice.Record.{Record}
 
 -- the records put and not yet taken, oldest first, and how many of them, counted from the oldest, have arrived
@@ -48,6 +54,10 @@ pub record Refused (depth : ℕ) (old new : Lines) (a b : ℕ) : Type 0 where
   pub full : depthOf depth a b ≤ length (old a b .held)
   pub same : Same old new
 
+-- what `put` answers: done, or refused with 15
+abbrev pub PutAnswers : {U : Type 0} → ℕ → Lines → Lines → ℕ → ℕ → Record → Result U NetFault → Type 0
+PutAnswers depth old new a b x r = Cases r (λ _. Put depth old new a b x) (λ f. (f ≡ LineFull) × Refused depth old new a b)
+
 -- x is the oldest record of the line, and has arrived
 pub record Looked (l : Line) (x : Record) : Type 0 where
   pub some : 0 < l .arrived
@@ -56,6 +66,10 @@ pub record Looked (l : Line) (x : Record) : Type 0 where
 -- nothing has arrived
 abbrev pub NotLooked : Line → Type 0
 NotLooked l = l .arrived ≡ 0
+
+-- what `look` answers: the oldest record if it has arrived, otherwise none
+abbrev pub LookAnswers : Line → Option Record → Type 0
+LookAnswers l r = BySome r (NotLooked l) (Looked l)
 
 -- x, the oldest record of the line from a to b, had arrived and was removed
 pub record Taken (old new : Lines) (a b : ℕ) (x : Record) : Type 0 where
@@ -67,6 +81,10 @@ pub record Taken (old new : Lines) (a b : ℕ) (x : Record) : Type 0 where
 pub record NotTaken (old new : Lines) (a b : ℕ) : Type 0 where
   pub none : old a b .arrived ≡ 0
   pub same : Same old new
+
+-- what `take` answers: as `look`, and a record answered was removed
+abbrev pub TakeAnswers : Lines → Lines → ℕ → ℕ → Option Record → Type 0
+TakeAnswers old new a b r = BySome r (NotTaken old new a b) (Taken old new a b)
 
 -- more of the line from a to b may have arrived, and nothing else changed
 pub record Brought (old new : Lines) (a b : ℕ) : Type 0 where

@@ -1,9 +1,6 @@
 // The trait that every kind of wire meets.
 ghost use Prim.Native.Nat.{ℕ, _-_, _≤_};
-ghost use Rattle.records.specs.declared.fault.NetFault.the-variants.{LineFull};
-ghost use Rattle.std.specs.Options.{Cases as BySome};
-ghost use Rattle.std.specs.Results.{Cases};
-ghost use Rattle.wires.specs.Lines.{Line, depthOf, Put, Refused, Looked, NotLooked, Taken, NotTaken, Brought, Emptied};
+ghost use Rattle.wires.specs.Lines.{Line, depthOf, PutAnswers, LookAnswers, TakeAnswers, Brought, Emptied};
 ghost use lib.ListN.{length};
 ghost use mathlib.Core.Path.{_≡_};
 use records::fault::NetFault;
@@ -26,15 +23,15 @@ pub trait Wire {
 
     // Appends the record, or refuses where the line is full. More of the line may have arrived then.
     fn put(&mut self, from: u8, to: u8, record: Record) -> Result<(), NetFault>
-        ensures { λ r. ⌜ Cases r (λ _. Put depth (line (now (self .entry))) (line (now (self .exit))) from to «record») (λ f. (f ≡ LineFull) × Refused depth (line (now (self .entry))) (line (now (self .exit))) from to) ⌝ };
+        ensures { λ r. ⌜ PutAnswers depth (line (now (self .entry))) (line (now (self .exit))) from to «record» r ⌝ };
 
     // The oldest record, if it has arrived.
     fn look(&self, from: u8, to: u8) -> Option<Record>
-        ensures { λ r. ⌜ BySome r (NotLooked (line (now (self .entry)) from to)) (Looked (line (now (self .entry)) from to)) ⌝ };
+        ensures { λ r. ⌜ LookAnswers (line (now (self .entry)) from to) r ⌝ };
 
     // Answers as `look` does, and removes the record that it answers.
     fn take(&mut self, from: u8, to: u8) -> Option<Record>
-        ensures { λ r. ⌜ BySome r (NotTaken (line (now (self .entry))) (line (now (self .exit))) from to) (Taken (line (now (self .entry))) (line (now (self .exit))) from to) ⌝ };
+        ensures { λ r. ⌜ TakeAnswers (line (now (self .entry))) (line (now (self .exit))) from to r ⌝ };
 
     // Lets more of the line arrive, or not.
     fn bring(&mut self, from: u8, to: u8)

@@ -24,7 +24,7 @@ loop-port-again g c =
     ])
 
 pub returns-then-free-eq0 : need.returns-then-free-eq0
-returns-then-free-eq0 g c = (refl, (c .loop-port .port, sym (c .if-names .ensures tt), omega arith), refl)
+returns-then-free-eq0 g c = (refl, record { full = (c .loop-port .port, sym (c .if-names .ensures tt), omega arith); same = refl })
 
 pub loop-port-2-holds : need.loop-port-2-holds
 loop-port-2-holds g c = below-none (c .args .from) (c .args .to .bits) (c .args .record) (g .W·Wire .line (c .args .wire .now))
@@ -41,7 +41,7 @@ loop-port-2-again g c =
     let inv = c .loop-port-2 .inv in
     elim (c .if-names-2 .came) [
       | then-names-2 w ↦
-          let on : named mask n ≡ true = sym (w .if-names-2 .ensures tt) in
+          let on : named mask n ≡ true = sym {b = named mask n} (w .if-names-2 .ensures tt) in
           let e = ap (λ l. length (l .held)) (below-same a mask x old mid n inv) in
           let t = put-since-space (m .depth) mid (m .line (w .put .last .self)) a n x (w .put .result) (w .put .ensures) (omega (arith, e, c .loop-port .inv n (omega arith) on)) in
           subst (λ v. Grown old (m .line v) (below (n + 1) (toEach a mask x))) (sym (w .wire-is)) (below-put a mask x old mid n inv (m .depth) (m .line (w .put .last .self)) on t)
