@@ -1,0 +1,10 @@
+pub mod Stamping
+pub mod Lists
+pub mod Views
+pub mod Holding
+pub mod Batches
+pub mod Calls
+pub mod Refusals
+pub mod Steps
+pub mod Histories
+pub mod Law
