@@ -1,11 +1,12 @@
 -- The law of one order. Assumes nothing.
 use mathlib.Core.Path.{_≡_}
 use mathlib.Core.Bool.{Bool, true, false, not, _&&_}
-use mathlib.Core.List.{List, [], _∷_, _++_, map, List·Memᴰ}
+use mathlib.Core.List.{List, _++_, map, List·Memᴰ}
 use Prim.Native.Nat.{ℕ, _<_}
-use Rattle.std.specs.shelf.Lists.{All, kept-by, length}
+use Rattle.std.specs.shelf.Lists.{kept-by, length}
 use Rattle.std.specs.declared.option.Option.{Option}
 use Rattle.std.specs.declared.option.Option.the-variants.{Some, None}
+use Rattle.ordered.specs.Orders.{Strict}
 use Rattle.records.specs.Keys.{decidedBefore}
 use Rattle.records.specs.declared.notice.Notice.{Notice}
 use Rattle.records.specs.declared.notice.Decided.{Decided}
@@ -17,11 +18,6 @@ use Rattle.model.specs.Histories.{History, common, book, lastReleased, isFrom,
 
 abbrev pub In : {X : Type 0} → X → List X → Type 0
 In x xs = List·Memᴰ x xs
-
--- each stands before every later one
-abbrev pub Rising : List Decided → Type 0
-Rising [] = Unit {0}
-Rising (x ∷ xs) = All (λ y. decidedBefore x y ≡ true) xs × Rising xs
 
 -- the notice is not after the one released last; before the first release none is
 abbrev pub upTo : Option Decided → Decided → Bool
@@ -45,7 +41,7 @@ AllTo p home berth xs = (x : Decided) → In x xs → about home berth x ≡ tru
 
 pub record OneOrder (h : History) (v : View) : Type 0 where
   -- no stamp is given twice, and the common list stands by rising stamp
-  pub stamps : Rising (common h)
+  pub stamps : Strict decidedBefore (common h)
   -- each port's book is exactly the common list's notices addressed to that port, up to the last one released there
   pub books : (p : ℕ) → book p h ≡ kept-by (λ x. goesTo p x && upTo (lastReleased p h) x) (common h)
   -- a dispatcher's notices stand in the common list in the order in which he handed them in: a first part of those

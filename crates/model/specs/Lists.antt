@@ -2,13 +2,9 @@
 use mathlib.Core.Bool.{Bool, true, cond, _&&_}
 use mathlib.Core.List.{List, [], _∷_}
 use Prim.Native.Nat.{ℕ, zero, suc, _+_, _^_}
+use Rattle.ordered.specs.Orders.{placed}
 
--- x among xs: in front of the first that it is before
-abbrev pub placed : {X : Type 0} → (X → X → Bool) → X → List X → List X
-placed before x [] = x ∷ []
-placed before x (y ∷ ys) = cond (before x y) (x ∷ y ∷ ys) (y ∷ placed before x ys)
-
--- each of several among xs
+-- each of several put in its place
 abbrev pub placedAll : {X : Type 0} → (X → X → Bool) → List X → List X → List X
 placedAll before [] xs = xs
 placedAll before (y ∷ ys) xs = placedAll before ys (placed before y xs)

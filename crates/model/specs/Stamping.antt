@@ -1,10 +1,11 @@
 -- How a port stamps. Assumes nothing.
-use mathlib.Core.Bool.{Bool, true, cond, _&&_}
+use mathlib.Core.Bool.{Bool, cond}
 use mathlib.Core.List.{List, [], _∷_}
 use Prim.Native.Nat.{ℕ, _+_, max}
 use lib.Dec.{ltb, leb}
 use Rattle.std.specs.declared.option.Option.{Option}
 use Rattle.std.specs.declared.option.Option.the-variants.{Some, None}
+use Rattle.ordered.specs.Orders.{allPass}
 use Rattle.records.specs.Keys.{pairBefore}
 use Rattle.records.specs.declared.stamp.Pair.{Pair}
 use Rattle.records.specs.declared.stamp.Stamp.{Stamp}
@@ -42,8 +43,7 @@ floorAfter floor (d ∷ ds) = floorAfter (Some (d .stamp .pair)) ds
 
 -- no step of theirs is above 65,535
 abbrev pub stampable : List Decided → Bool
-stampable [] = true
-stampable (d ∷ ds) = stepFits (d .stamp .pair) && stampable ds
+stampable ds = allPass (λ d. stepFits (d .stamp .pair)) ds
 
 -- the clock that hand in gives: the larger of the reading and the dispatcher's last clock, which is 0 before his first
 abbrev pub clockFor : ℕ → ℕ → ℕ

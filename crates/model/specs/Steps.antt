@@ -19,7 +19,8 @@ use Rattle.wires.specs.Lines.{Line, Lines, Same, Taken, Brought}
 use Rattle.boards.specs.Rules.{Vessels, Turn, Rule}
 use Rattle.boards.specs.declared.outcome.Outcome.{Outcome}
 use Rattle.boards.specs.declared.outcome.Outcome.the-variants.{Clash}
-use Rattle.model.specs.Lists.{placed, placedAll, rest}
+use Rattle.ordered.specs.Orders.{placed}
+use Rattle.model.specs.Lists.{placedAll, rest}
 use Rattle.model.specs.Views.{Table, PortView, View, sends}
 use Rattle.model.specs.Stamping.{nextPair, raised, floorAfter}
 use Rattle.model.specs.Batches.{left, sentTo, copiesOn, copiesOf}

@@ -1,5 +1,7 @@
 -- The orders in which notices are kept, decided and released. Assumes nothing.
 use mathlib.Core.Bool.{Bool}
+use mathlib.Core.List.{List, [], _∷_}
+use Prim.Native.Nat.{ℕ}
 use Rattle.ordered.specs.Orders.{by, byThen}
 use Rattle.records.specs.declared.stamp.Pair.{Pair}
 use Rattle.records.specs.declared.stamp.Stamp.{Stamp}
@@ -21,3 +23,10 @@ handedBefore = byThen (λ x. x .clock) (byThen (λ x. x .notice .dispatcher) (by
 -- decided notices are kept by stamp
 abbrev pub decidedBefore : Decided → Decided → Bool
 decidedBefore x y = stampBefore (x .stamp) (y .stamp)
+
+-- the numbers that these two orders go by: notices with the same ones have the same place
+abbrev pub handedKey : Handed → List ℕ
+handedKey x = x .clock ∷ x .notice .dispatcher ∷ x .notice .count ∷ []
+
+abbrev pub decidedKey : Decided → List ℕ
+decidedKey x = x .stamp .pair .clock ∷ x .stamp .pair .step ∷ x .stamp .port ∷ []

@@ -1,4 +1,6 @@
 // Where a decided notice stands in the common order.
+ghost use Rattle.records.specs.Keys.{pairBefore, stampBefore};
+ghost use mathlib.Core.Path.{_≡_};
 
 // A clock in seconds and a step, which tells apart what is stamped within one second; compared in that order.
 #[derive(Clone, Copy, PartialEq, Eq, PartialOrd, Ord, Debug)]
@@ -12,4 +14,20 @@ pub struct Pair {
 pub struct Stamp {
     pub pair: Pair,
     pub port: u8,
+}
+
+impl Pair {
+    pub fn is_before(self, other: Pair) -> bool
+        ensures { λ r. ⌜ r ≡ pairBefore self other ⌝ }
+    {
+        self < other
+    }
+}
+
+impl Stamp {
+    pub fn is_before(self, other: Stamp) -> bool
+        ensures { λ r. ⌜ r ≡ stampBefore self other ⌝ }
+    {
+        self < other
+    }
 }

@@ -1,0 +1,4 @@
+pub mod Changes
+pub mod Keys
+pub mod Moves
+pub mod Rises
