@@ -1,1 +1,4 @@
 pub mod Lists
+pub mod Heights
+pub mod Inv
+pub mod Carry
