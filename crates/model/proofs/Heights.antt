@@ -20,15 +20,15 @@ use Rattle.model.specs.Stamping.{nextPair, raised, stepFits}
 pub height : Pair → ℕ
 height p = rank p
 
-abbrev pub at : Decided → ℕ
-at x = height (x .stamp .pair)
+abbrev pub heightOf : Decided → ℕ
+heightOf x = height (x .stamp .pair)
 
 -- the place of a decided notice in the common order
 abbrev pub key : Decided → ℕ
-key x = at x * 8 + x .stamp .port
+key x = heightOf x * 8 + x .stamp .port
 
 abbrev pub level : Record → ℕ
-level (Carries d) = at d
+level (Carries d) = heightOf d
 level (Empty s) = height (s .pair)
 
 -- a floor or a clearance: 0 for none

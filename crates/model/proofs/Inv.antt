@@ -12,7 +12,7 @@ use Rattle.records.specs.declared.notice.Record.the-variants.{Notice as Carries
 use Rattle.model.specs.Batches.{goesTo, sentTo}
 use Rattle.model.specs.Law.{In}
 use Rattle.model.proofs.Lists.{Sorted, insert}
-use Rattle.model.proofs.Heights.{at, key, level, Small}
+use Rattle.model.proofs.Heights.{heightOf, key, level, Small}
 
 pub record State : Type 0 where
   pub floor : ℕ → ℕ
@@ -36,7 +36,7 @@ pub record Marks (s t : State) (f n : ℕ) (puts : ℕ → List Record) : Type 0
 
 -- the port f stamps m: each other port to which it is addressed gets a copy, and no other
 pub record Stamps (sends : ℕ → ℕ → Bool) (s t : State) (f : ℕ) (m : Decided) (puts : ℕ → List Record) : Type 0 where
-  pub marks : Marks s t f (at m) puts
+  pub marks : Marks s t f (heightOf m) puts
   pub port : f < 8
   pub source : m .stamp .port ≡ f
   pub small : Small (m .stamp .pair)
@@ -70,8 +70,8 @@ pub record Fetches (s t : State) (f p : ℕ) : Type 0 where
 pub record Releases (sends : ℕ → ℕ → Bool) (s t : State) (p : ℕ) (m : Decided) : Type 0 where
   pub others : List Decided
   pub before : s .waiting p ≡ m ∷ others
-  pub free : (f : ℕ) → sends f p ≡ true → at m < s .clear p f
-  pub floor : (q : ℕ) → t .floor q ≡ cond (eqb q p) (max (s .floor q) (at m + 1)) (s .floor q)
+  pub free : (f : ℕ) → sends f p ≡ true → heightOf m < s .clear p f
+  pub floor : (q : ℕ) → t .floor q ≡ cond (eqb q p) (max (s .floor q) (heightOf m + 1)) (s .floor q)
   pub clear : (q g : ℕ) → t .clear q g ≡ s .clear q g
   pub waiting : (q : ℕ) → t .waiting q ≡ cond (eqb q p) others (s .waiting q)
   pub line : (g q : ℕ) → t .line g q ≡ s .line g q
@@ -94,13 +94,13 @@ pub record Split (s : State) (c : List Decided) (book : List Decided) (p : ℕ) 
 pub record Known (s : State) (x : Decided) : Type 0 where
   pub port : x .stamp .port < 8
   pub small : Small (x .stamp .pair)
-  pub below : at x < s .floor (x .stamp .port)
+  pub below : heightOf x < s .floor (x .stamp .port)
 
 pub record Waits (s : State) (c book : List Decided) (p : ℕ) (x : Decided) : Type 0 where
   pub common : In x c
   pub to : goesTo p x ≡ true
   pub after : (b : Decided) → In b book → key b < key x
-  pub fetched : (x .stamp .port ≡ p → ⊥) → at x < s .clear p (x .stamp .port)
+  pub fetched : (x .stamp .port ≡ p → ⊥) → heightOf x < s .clear p (x .stamp .port)
 
 pub record Rides (sends : ℕ → ℕ → Bool) (c book : List Decided) (f p : ℕ) (x : Decided) : Type 0 where
   pub common : In x c
@@ -112,8 +112,8 @@ pub record Rides (sends : ℕ → ℕ → Bool) (c book : List Decided) (f p : �
 
 pub record Passed (sends : ℕ → ℕ → Bool) (s : State) (p : ℕ) (b : Decided) : Type 0 where
   pub port : b .stamp .port < 8
-  pub own : at b < s .floor p
-  pub other : (f : ℕ) → sends f p ≡ true → at b < s .floor f
+  pub own : heightOf b < s .floor p
+  pub other : (f : ℕ) → sends f p ≡ true → heightOf b < s .floor f
 
 pub record Inv (sends : ℕ → ℕ → Bool) (s : State) (c : List Decided) (book : ℕ → List Decided) : Type 0 where
   pub sorted : Sorted key c
