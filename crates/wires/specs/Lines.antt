@@ -5,6 +5,12 @@ use mathlib.Core.List.{List, [], _∷_, _++_}
 use Prim.Native.Nat.{ℕ, _+_, _≤_, _<_}
 use lib.Dec.{eqb, ltb}
 use lib.ListN.{length}
+use Rattle.std.specs.Options.{Cases as BySome}
+use Rattle.std.specs.Results.{Cases}
+use Rattle.std.specs.declared.option.Option.{Option}
+use Rattle.std.specs.declared.result.Result.{Result}
+use Rattle.records.specs.declared.fault.NetFault.{NetFault}
+use Rattle.records.specs.declared.fault.NetFault.the-variants.{LineFull}
 use Rattle.records.specs.declared.notice.Record.{Record}
 
 -- the records put and not yet taken, oldest first, and how many of them, counted from the oldest, have arrived
@@ -15,6 +21,10 @@ pub record Line : Type 0 where
 -- the lines of a wire, by the port that sends and the port that takes
 abbrev pub Lines : Type 0
 Lines = ℕ → ℕ → Line
+
+-- a line that holds nothing
+abbrev pub emptyLine : Line
+emptyLine = record { held = []; arrived = 0 }
 
 -- there is a line from p to q: different ports from 0 to 7
 abbrev pub isLine : ℕ → ℕ → Bool
@@ -44,6 +54,10 @@ pub record Refused (depth : ℕ) (old new : Lines) (a b : ℕ) : Type 0 where
   pub full : depthOf depth a b ≤ length (old a b .held)
   pub same : Same old new
 
+-- what `put` answers: done, or refused with 15
+abbrev pub PutAnswers : {U : Type 0} → ℕ → Lines → Lines → ℕ → ℕ → Record → Result U NetFault → Type 0
+PutAnswers depth old new a b x r = Cases r (λ _. Put depth old new a b x) (λ f. (f ≡ LineFull) × Refused depth old new a b)
+
 -- x is the oldest record of the line, and has arrived
 pub record Looked (l : Line) (x : Record) : Type 0 where
   pub some : 0 < l .arrived
@@ -52,6 +66,10 @@ pub record Looked (l : Line) (x : Record) : Type 0 where
 -- nothing has arrived
 abbrev pub NotLooked : Line → Type 0
 NotLooked l = l .arrived ≡ 0
+
+-- what `look` answers: the oldest record if it has arrived, otherwise none
+abbrev pub LookAnswers : Line → Option Record → Type 0
+LookAnswers l r = BySome r (NotLooked l) (Looked l)
 
 -- x, the oldest record of the line from a to b, had arrived and was removed
 pub record Taken (old new : Lines) (a b : ℕ) (x : Record) : Type 0 where
@@ -64,12 +82,16 @@ pub record NotTaken (old new : Lines) (a b : ℕ) : Type 0 where
   pub none : old a b .arrived ≡ 0
   pub same : Same old new
 
+-- what `take` answers: as `look`, and a record answered was removed
+abbrev pub TakeAnswers : Lines → Lines → ℕ → ℕ → Option Record → Type 0
+TakeAnswers old new a b r = BySome r (NotTaken old new a b) (Taken old new a b)
+
 -- more of the line from a to b may have arrived, and nothing else changed
 pub record Brought (old new : Lines) (a b : ℕ) : Type 0 where
   pub held : new a b .held ≡ old a b .held
   pub arrived : old a b .arrived ≤ new a b .arrived
   pub others : SameBut old new a b
 
--- every line is empty
+-- every line is empty, so nothing has arrived
 abbrev pub Emptied : Lines → Type 0
-Emptied new = (p q : ℕ) → new p q .held ≡ []
+Emptied new = (p q : ℕ) → new p q ≡ emptyLine

@@ -1,0 +1,3 @@
+pub mod JournalLaws
+pub mod Places
+pub mod Edits

@@ -1,0 +1,21 @@
+// One record in the journal, with the line that it is on.
+ghost use Rattle.bag_wire.specs.Journals.{on};
+ghost use mathlib.Core.Path.{_≡_};
+use records::notice::Record;
+
+#[derive(Clone, Copy)]
+pub struct Entry {
+    pub from: u8,
+    pub to: u8,
+    pub item: Record,
+    pub arrived: bool,
+}
+
+impl Entry {
+    // Whether it is on the line.
+    pub fn is_on(&self, from: u8, to: u8) -> bool
+        ensures { λ r. ⌜ r ≡ on from to (now (self .entry)) ⌝ }
+    {
+        (self.from == from) & (self.to == to)
+    }
+}

@@ -1,0 +1,6 @@
+use native.Mathlib.Omega.{arith}
+use Rattle.row_wire.proofs.RingLaws.{held-pop}
+use Rattle.row_wire.proofs.ring.Ring.front.Needs as need
+
+pub returns : need.returns
+returns c = (_, held-pop (c .args .self .now) _ (omega arith))
