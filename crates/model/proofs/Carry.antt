@@ -16,7 +16,7 @@ use Rattle.model.proofs.Heights.{level}
 use Rattle.model.proofs.Inv.{State, AtMostOne, Marks, Chain, Waits, Rides, Passed, Known}
 
 pub known-up : (s t : State) (x : Decided) → ((q : ℕ) → s .floor q ≤ t .floor q) → Known s x → Known t x
-known-up s t x up k = let u = up (x .stamp .port) in record { port = k .port; small = k .small; below = omega (arith, u, k .below) }
+known-up s t x up k = let u = up (x .stamp .port) in record { port = k .port; said = k .said; small = k .small; below = omega (arith, u, k .below) }
 
 pub passed-up : (sends : ℕ → ℕ → Bool) (s t : State) (p : ℕ) (b : Decided) → ((q : ℕ) → s .floor q ≤ t .floor q) → Passed sends s p b → Passed sends t p b
 passed-up sends s t p b up h = record { port = h .port; own = let u = up p in omega (arith, u, h .own); other = λ f to. let u = up f in let v = h .other f to in omega (arith, u, v) }

@@ -39,6 +39,7 @@ pub record Stamps (sends : ℕ → ℕ → Bool) (s t : State) (f : ℕ) (m : De
   pub marks : Marks s t f (heightOf m) puts
   pub port : f < 8
   pub source : m .stamp .port ≡ f
+  pub said : m .notice .source ≡ f
   pub small : Small (m .stamp .pair)
   pub reach : (p : ℕ) → goesTo p m ≡ true → (p ≡ f → ⊥) → sends f p ≡ true
   pub copy : (q : ℕ) → goesTo q m ≡ true → (q ≡ f → ⊥) → In (Carries m) (puts q)
@@ -93,6 +94,7 @@ pub record Split (s : State) (c : List Decided) (book : List Decided) (p : ℕ) 
 
 pub record Known (s : State) (x : Decided) : Type 0 where
   pub port : x .stamp .port < 8
+  pub said : x .notice .source ≡ x .stamp .port
   pub small : Small (x .stamp .pair)
   pub below : heightOf x < s .floor (x .stamp .port)
 

@@ -6,3 +6,4 @@ pub mod Stamp
 pub mod Clear
 pub mod Fetch
 pub mod Release
+pub mod Batch

@@ -48,6 +48,7 @@ module _ (sends : ℕ → ℕ → Bool) (s t : State) (c : List Decided) (book :
   known-m : Known t m
   known-m = record {
     port = subst (λ g. g < 8) (sym (r .source)) (r .port);
+    said = r .said ∙ sym (r .source);
     small = r .small;
     below = subst (λ g. heightOf m < t .floor g) (sym (r .source)) (rw (marks-floor s t f (heightOf m) puts (r .marks) f (eq-eqb f f refl)) (omega arith));
   }

@@ -12,6 +12,7 @@ use Rattle.records.specs.declared.notice.Decided.{Decided}
 use Rattle.records.specs.declared.notice.Record.{Record}
 use Rattle.records.specs.declared.notice.Record.the-variants.{Notice as Carries}
 use Rattle.wires.specs.Lines.{isLine}
+use Rattle.wires.specs.Growths.{Extra}
 
 -- the notice's count is at most its dispatcher's cut
 abbrev pub within : List ℕ → Handed → Bool
@@ -32,7 +33,7 @@ abbrev pub sentTo : ℕ → List Decided → List Decided
 sentTo p ds = kept-by (goesTo p) ds
 
 -- the copies that the line from f to q gets when the port decides ds: one of each that is addressed to q
-abbrev pub copiesOn : ℕ → List Decided → ℕ → ℕ → List Record
+abbrev pub copiesOn : ℕ → List Decided → Extra
 copiesOn port ds f q = cond (eqb f port && isLine f q) (map Carries (sentTo q ds)) []
 
 -- the mask without the port's own bit

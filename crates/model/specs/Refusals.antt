@@ -15,6 +15,7 @@ use Rattle.records.specs.declared.notice.Decided.{Decided}
 use Rattle.records.specs.declared.notice.Record.{Record}
 use Rattle.records.specs.declared.notice.Record.the-variants.{Notice as Carries, Empty}
 use Rattle.wires.specs.Lines.{Line, Lines, depthOf}
+use Rattle.wires.specs.Growths.{Extra, toEach}
 use Rattle.model.specs.Lists.{every}
 use Rattle.model.specs.Views.{Table, PortView, View, sends, outside}
 use Rattle.model.specs.Stamping.{nextPair, stepFits, stampable}
@@ -47,7 +48,7 @@ abbrev pub cutsFit : PortView → List ℕ → Bool
 cutsFit o cuts = every 4 (λ d. leb (o .settled d) (getD cuts d 0) && leb (getD cuts d 0) (o .given d))
 
 -- each line from the port has as many free places, depth less length, as it is to get records
-abbrev pub room : ℕ → Lines → ℕ → (ℕ → ℕ → List Record) → Bool
+abbrev pub room : ℕ → Lines → ℕ → Extra → Bool
 room depth lines port extra = every 8 (λ q. leb (length (extra port q)) (depthOf depth port q - length (lines port q .held)))
 
 abbrev pub decideFault : ℕ → View → Decide → Option NetFault
@@ -64,8 +65,8 @@ decideFault depth v x =
     None
 
 -- a clearance goes on the line to each port that the table names: an empty notice of this stamp
-abbrev pub clearanceOn : Table → Stamp → ℕ → ℕ → List Record
-clearanceOn t s f q = cond (eqb f (s .port) && sends t f q) (Empty s ∷ []) []
+abbrev pub clearanceOn : Table → Stamp → Extra
+clearanceOn t s = toEach (s .port) (t .mask (s .port)) (Empty s)
 
 -- the stamp of a clearance: by the same rule, from the bare reading
 abbrev pub clearanceStamp : View → ℕ → ℕ → Stamp

@@ -15,13 +15,14 @@ use Rattle.records.specs.declared.notice.Handed.{Handed}
 use Rattle.records.specs.declared.notice.Decided.{Decided}
 use Rattle.records.specs.declared.notice.Record.{Record}
 use Rattle.records.specs.declared.notice.Record.the-variants.{Notice as Carries, Empty}
-use Rattle.wires.specs.Lines.{Line, Lines, Same, Taken, Brought}
+use Rattle.wires.specs.Lines.{Same, Taken, Brought}
+use Rattle.wires.specs.Growths.{Grown}
 use Rattle.boards.specs.Rules.{Vessels, Turn, Rule}
 use Rattle.boards.specs.declared.outcome.Outcome.{Outcome}
 use Rattle.boards.specs.declared.outcome.Outcome.the-variants.{Clash}
 use Rattle.ordered.specs.Orders.{placed}
 use Rattle.model.specs.Lists.{placedAll, rest}
-use Rattle.model.specs.Views.{Table, PortView, View, sends}
+use Rattle.model.specs.Views.{PortView, View}
 use Rattle.model.specs.Stamping.{nextPair, raised, floorAfter}
 use Rattle.model.specs.Batches.{left, sentTo, copiesOn, copiesOf}
 use Rattle.model.specs.Calls.{HandIn, Decide, Call, noticeOf, handedOf, decision}
@@ -124,12 +125,6 @@ isAbout home berth n = eqb (n .home) home && eqb (n .berth) berth
 -- the port p became this; no other port changed
 abbrev pub OnlyPort : View → View → ℕ → (PortView → PortView) → Type 0
 OnlyPort v w p after = (q : ℕ) → w .port q ≡ cond (eqb q p) (after (v .port q)) (v .port q)
-
--- each line holds this much more, newest last; where it got nothing it is as it was, and what had arrived has still arrived
-pub record Grown (old new : Lines) (extra : ℕ → ℕ → List Record) : Type 0 where
-  pub held : (p q : ℕ) → new p q .held ≡ old p q .held ++ extra p q
-  pub arrived : (p q : ℕ) → old p q .arrived ≤ new p q .arrived
-  pub others : (p q : ℕ) → extra p q ≡ [] → new p q ≡ old p q
 
 abbrev pub SameShown : View → View → Type 0
 SameShown v w = (p home berth : ℕ) → w .shown p home berth ≡ v .shown p home berth
