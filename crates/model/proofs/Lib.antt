@@ -7,3 +7,5 @@ pub mod Clear
 pub mod Fetch
 pub mod Release
 pub mod Batch
+pub mod Passing
+pub mod Desks
