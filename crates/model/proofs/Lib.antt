@@ -9,3 +9,6 @@ pub mod Release
 pub mod Batch
 pub mod Passing
 pub mod Desks
+pub mod Lives
+pub mod Sending
+pub mod Taking

@@ -59,6 +59,9 @@ mask-none (suc n) t e k low = elim (cases-bool (eqb k n)) [
         absurd (omega (arith, e, c, p))
     last (inr z) = z
 
+pub up-to : (x n : ℕ) → ltb n x ≡ false → x < n + 1
+up-to x n e = let k = ltb-false n x e in omega (arith, k)
+
 pub inside-table : (t : Table) (p : ℕ) → outside t p ≡ false → p < t .ports
 inside-table t p e = ltb-true p (t .ports) (not-false (ltb p (t .ports)) e)
 
