@@ -35,18 +35,24 @@ ofHim f d x = isFrom f d (x .notice)
 pub turn-before : (x y : Handed) → x .notice .dispatcher < 4 → y .notice .dispatcher < 4 → countOf x < 65536 → countOf y < 65536 → handedBefore x y ≡ ltb (turn x) (turn y)
 turn-before x y p q r s = grind (arith, tells)
 
-pub record Entry (sends : ℕ → ℕ → Bool) (f : ℕ) (o : PortView) (x : Handed) : Type 0 where
+pub record EntryOf (sends : ℕ → ℕ → Bool) (f : ℕ) (given clocks : ℕ → ℕ) (x : Handed) : Type 0 where
   pub source : x .notice .source ≡ f
   pub dispatcher : x .notice .dispatcher < 4
   pub few : countOf x < 65536
-  pub count : countOf x ≤ o .given (x .notice .dispatcher)
-  pub clock : x .clock ≤ o .clock (x .notice .dispatcher)
+  pub count : countOf x ≤ given (x .notice .dispatcher)
+  pub clock : x .clock ≤ clocks (x .notice .dispatcher)
   pub reach : (q : ℕ) → named (x .notice .to .bits) q ≡ true → (q ≡ f → ⊥) → sends f q ≡ true
 
-pub record Desk (sends : ℕ → ℕ → Bool) (f : ℕ) (o : PortView) : Type 0 where
-  pub sorted : Sorted turn (o .undecided)
-  pub each : (x : Handed) → In x (o .undecided) → Entry sends f o x
-  pub counted : (d : ℕ) → Sorted countOf (kept-by (ofHim f d) (o .undecided))
+pub record DeskOf (sends : ℕ → ℕ → Bool) (f : ℕ) (undecided : List Handed) (given clocks : ℕ → ℕ) : Type 0 where
+  pub sorted : Sorted turn undecided
+  pub each : (x : Handed) → In x undecided → EntryOf sends f given clocks x
+  pub counted : (d : ℕ) → Sorted countOf (kept-by (ofHim f d) undecided)
+
+abbrev pub Entry : (ℕ → ℕ → Bool) → ℕ → PortView → Handed → Type 0
+Entry sends f o x = EntryOf sends f (o .given) (o .clock) x
+
+abbrev pub Desk : (ℕ → ℕ → Bool) → ℕ → PortView → Type 0
+Desk sends f o = DeskOf sends f (o .undecided) (o .given) (o .clock)
 
 from-parts : (f d : ℕ) (n : Notice) → isFrom f d n ≡ true → (n .source ≡ f) × (n .dispatcher ≡ d)
 from-parts f d n e = let both = and-parts (eqb (n .source) f) (eqb (n .dispatcher) d) e in (eqb-true (n .source) f (both .0), eqb-true (n .dispatcher) d (both .1))
@@ -131,7 +137,7 @@ desk-decide sends f o x k =
     let t : Handed → Bool = λ n. not (within (x .cuts) n) in
     record {
       sorted = sorted-kept turn t (o .undecided) (k .sorted);
-      each = λ y m. let e = k .each y (kept-mem t (o .undecided) m) in record { source = e .source; dispatcher = e .dispatcher; few = e .few; count = e .count; clock = e .clock; reach = e .reach };
+      each = λ y m. k .each y (kept-mem t (o .undecided) m);
       counted = λ d. subst (Sorted countOf) (sym (kept-swap (ofHim f d) t (o .undecided))) (sorted-kept countOf t (kept-by (ofHim f d) (o .undecided)) (k .counted d));
     }
 

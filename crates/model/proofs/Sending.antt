@@ -274,7 +274,7 @@ module _ (rule : Rule) (t : Table) (h : History) (v w : View) (port reading : �
       | inl b ↦ i .lines g q y b
       | inr b ↦ empty-small (eqb g port && sends (v .table) port q) (record { pair = p; port = port }) y small b
     ];
-    desks = port-all v w port (afterClear p) (r .ports) (Desk (sends t)) (λ k. record { sorted = k .sorted; each = λ y a. let e = k .each y a in record { source = e .source; dispatcher = e .dispatcher; few = e .few; count = e .count; clock = e .clock; reach = e .reach }; counted = k .counted }) (i .desks);
+    desks = port-all v w port (afterClear p) (r .ports) (Desk (sends t)) (λ k. k) (i .desks);
     said = λ g d. i .said g d ∙ ap (λ l. saidBy g d (common h) ++ l) (sym (port-same v w port (afterClear p) (r .ports) (undecidedOf g d) (λ _. refl) g));
     shown = λ q a b. r .boards q a b ∙ i .shown q a b;
   }

@@ -87,7 +87,7 @@ module _ (rule : Rule) (t : Table) (h : History) (v w : View) (port source : ℕ
     floors = port-all v w port (afterFetch source (r .got)) (r .ports) (λ _ z. AnySmall (z .floor)) (λ a. a) (i .floors);
     clears = λ q g. port-all v w port (afterFetch source (r .got)) (r .ports) (λ _ z. AnySmall (z .clearance g)) (small-changed (eqb g source) (pairOf (r .got)) (v .port port .clearance g) (i .lines source port (r .got) first-in)) (λ z. i .clears z g) q;
     lines = λ g q y a. i .lines g q y (later g q y (subst (λ l. In y l) (held-by (v .line) (w .line) source port (w .line source port .held) refl (r .lines .others) g q) a));
-    desks = port-all v w port (afterFetch source (r .got)) (r .ports) (Desk (sends t)) (λ k. record { sorted = k .sorted; each = λ y a. let e = k .each y a in record { source = e .source; dispatcher = e .dispatcher; few = e .few; count = e .count; clock = e .clock; reach = e .reach }; counted = k .counted }) (i .desks);
+    desks = port-all v w port (afterFetch source (r .got)) (r .ports) (Desk (sends t)) (λ k. k) (i .desks);
     said = λ g d. i .said g d ∙ ap (λ l. saidBy g d (common h) ++ l) (sym (port-same v w port (afterFetch source (r .got)) (r .ports) (undecidedOf g d) (λ _. refl) g));
     shown = λ q a b. r .boards q a b ∙ i .shown q a b;
   }
@@ -120,11 +120,11 @@ shown-cases rule p home berth true xs n s e =
 shown-cases rule p home berth false xs n s e = e
 
 module _ (rule : Rule) (t : Table) (h : History) (v w : View) (port : ℕ) (n : Decided) (o : Outcome) (i : Whole rule t h v) (r : Releases rule v port n o w) where
-  first-in : In n (v .port port .waiting)
-  first-in = rw (r .lowest .1) (List·Memᴰ·head refl)
+  lowest-in : In n (v .port port .waiting)
+  lowest-in = rw (r .lowest .1) (List·Memᴰ·head refl)
 
   small : Small (n .stamp .pair)
-  small = i .order .known n (i .order .waits port n first-in .common) .small
+  small = i .order .known n (i .order .waits port n lowest-in .common) .small
 
   -- no sender holds it
   none-hold : holders (v .table) port (v .port port) (n .stamp .pair) ≡ 0
@@ -166,7 +166,7 @@ module _ (rule : Rule) (t : Table) (h : History) (v w : View) (port : ℕ) (n : 
     floors = port-all v w port (afterRelease n) (r .ports) (λ _ z. AnySmall (z .floor)) (λ a. raised-small (v .port port .floor) (n .stamp .pair) a small) (i .floors);
     clears = λ q g. port-all v w port (afterRelease n) (r .ports) (λ _ z. AnySmall (z .clearance g)) (λ a. a) (λ z. i .clears z g) q;
     lines = λ g q y a. i .lines g q y (subst (λ l. In y (l .held)) (r .lines g q) a);
-    desks = port-all v w port (afterRelease n) (r .ports) (Desk (sends t)) (λ k. record { sorted = k .sorted; each = λ y a. let e = k .each y a in record { source = e .source; dispatcher = e .dispatcher; few = e .few; count = e .count; clock = e .clock; reach = e .reach }; counted = k .counted }) (i .desks);
+    desks = port-all v w port (afterRelease n) (r .ports) (Desk (sends t)) (λ k. k) (i .desks);
     said = λ g d. i .said g d ∙ ap (λ l. saidBy g d (common h) ++ l) (sym (port-same v w port (afterRelease n) (r .ports) (undecidedOf g d) (λ _. refl) g));
     shown = λ p a b. r .boards p a b ∙ shown-cases rule p a b (eqb p port) (book p h) n (v .shown p a b) (i .shown p a b);
   }

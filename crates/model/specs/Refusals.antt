@@ -86,7 +86,7 @@ bringFault v from to =
     OutOfReach when not (sends (v .table) from to) else
     None
 
-abbrev oldestOf : List Record → Option Record
+abbrev pub oldestOf : List Record → Option Record
 oldestOf [] = None
 oldestOf (x ∷ xs) = Some x
 
@@ -113,7 +113,7 @@ fetchFault v port source =
     None
 
 -- the mask of those who hold the first of these notices
-abbrev heldBy : Table → ℕ → PortView → List Decided → ℕ
+abbrev pub heldBy : Table → ℕ → PortView → List Decided → ℕ
 heldBy t port o [] = 0
 heldBy t port o (d ∷ ds) = holders t port o (d .stamp .pair)
 
