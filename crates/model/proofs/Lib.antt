@@ -12,3 +12,5 @@ pub mod Desks
 pub mod Lives
 pub mod Sending
 pub mod Taking
+pub mod Sound
+pub mod EdgeCases

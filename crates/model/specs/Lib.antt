@@ -8,3 +8,5 @@ pub mod Refusals
 pub mod Steps
 pub mod Histories
 pub mod Law
+pub mod Edges
+pub mod Runs

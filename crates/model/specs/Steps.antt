@@ -52,7 +52,7 @@ abbrev pub afterDecide : Decide → PortView → PortView
 afterDecide x o = record {
   undecided = left (x .cuts) (o .undecided);
   given = o .given;
-  settled = λ d. cond (ltb d 4) (getD (x .cuts) d 0) (o .settled d);
+  settled = λ d. getD (x .cuts) d 0;
   clock = o .clock;
   number = o .number + 1;
   floor = floorAfter (o .floor) (decision o x);
