@@ -14,3 +14,4 @@ pub mod Sending
 pub mod Taking
 pub mod Sound
 pub mod EdgeCases
+pub mod Answering
