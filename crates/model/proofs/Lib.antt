@@ -15,3 +15,4 @@ pub mod Taking
 pub mod Sound
 pub mod EdgeCases
 pub mod Answering
+pub mod TwoPorts

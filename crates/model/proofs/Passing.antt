@@ -65,14 +65,19 @@ up-to x n e = let k = ltb-false n x e in omega (arith, k)
 pub inside-table : (t : Table) (p : ℕ) → outside t p ≡ false → p < t .ports
 inside-table t p e = ltb-true p (t .ports) (not-false (ltb p (t .ports)) e)
 
+-- a byte whose first eight ports pass names no other
+pub names-only : (bits : ℕ) (t : ℕ → Bool) → bits < 256 → every 8 (λ q. not (named bits q) || t q) ≡ true → (q : ℕ) → named bits q ≡ true → t q ≡ true
+names-only bits t byte e q to = elim (cases-bool (ltb q 8)) [
+  | inl low ↦ elim (or-cases (not (named bits q)) (t q) (every-at 8 (λ q. not (named bits q) || t q) e q (ltb-true q 8 low))) [
+    | inl z ↦ absurd (false≢true (sym (not-true (named bits q) z) ∙ to))
+    | inr z ↦ z
+  ]
+  | inr high ↦ absurd (false≢true (sym (none-above bits q byte (ltb-false q 8 high)) ∙ to))
+]
+
 -- a mask in reach names only the port itself and those that it sends to
 pub in-reach : (t : Table) (port bits : ℕ) → inReach t port bits ≡ true → (q : ℕ) → named bits q ≡ true → (q ≡ port → ⊥) → sends t port q ≡ true
 in-reach t port bits e q to n =
     let both = and-parts (ltb bits 256) (every 8 (λ q. not (named bits q) || (eqb q port || sends t port q))) e in
-    elim (cases-bool (ltb q 8)) [
-      | inl low ↦ elim (or-cases (not (named bits q)) (eqb q port || sends t port q) (every-at 8 (λ q. not (named bits q) || (eqb q port || sends t port q)) (both .1) q (ltb-true q 8 low))) [
-        | inl z ↦ absurd (false≢true (sym (not-true (named bits q) z) ∙ to))
-        | inr z ↦ elim (or-cases (eqb q port) (sends t port q) z) [ inl y ↦ absurd (n (eqb-true q port y)) | inr y ↦ y ]
-      ]
-      | inr high ↦ absurd (false≢true (sym (none-above bits q (ltb-true bits 256 (both .0)) (ltb-false q 8 high)) ∙ to))
-    ]
+    let z = names-only bits (λ q. eqb q port || sends t port q) (ltb-true bits 256 (both .0)) (both .1) q to in
+    elim (or-cases (eqb q port) (sends t port q) z) [ inl y ↦ absurd (n (eqb-true q port y)) | inr y ↦ y ]
