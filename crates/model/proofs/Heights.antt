@@ -6,7 +6,8 @@ use native.Mathlib.Omega.{arith}
 use lib.Dec.{ltb, leb}
 use Rattle.std.specs.declared.option.Option.{Option}
 use Rattle.std.specs.declared.option.Option.the-variants.{Some, None}
-use Rattle.std.proofs.shelf.Tests.{cond-both, ltb-true, ltb-false, leb-true}
+use Rattle.std.proofs.shelf.Tests.{cond-both, ltb-true, ltb-false, leb-true, true≢false}
+use Rattle.std.proofs.shelf.Ways.{tells}
 use Rattle.records.specs.Keys.{pairBefore, stampBefore, decidedBefore}
 use Rattle.records.proofs.Ranks.{rank, pair-rank, stamp-rank}
 use Rattle.records.specs.declared.stamp.Pair.{Pair}
@@ -15,6 +16,7 @@ use Rattle.records.specs.declared.notice.Decided.{Decided}
 use Rattle.records.specs.declared.notice.Record.{Record}
 use Rattle.records.specs.declared.notice.Record.the-variants.{Notice as Carries, Empty}
 use Rattle.model.specs.Stamping.{nextPair, raised, stepFits}
+use Rattle.model.specs.Holding.{holds}
 
 -- not open to computation: a proof sees one number
 pub height : Pair → ℕ
@@ -72,3 +74,9 @@ raised-bound (Some f) p s t = cond-both (pairBefore f p) (Some p) (Some f) (λ z
 pub raised-small : (floor : Option Pair) (p : Pair) → AnySmall floor → Small p → AnySmall (raised floor p)
 raised-small None p s t = t
 raised-small (Some f) p s t = cond-both (pairBefore f p) (Some p) (Some f) AnySmall (λ _. t) (λ _. s)
+
+-- whoever does not hold has a clearance that is not below the pair
+pub not-held : (c : Option Pair) (p : Pair) → holds c p ≡ false → AnySmall c → Small p → height p < bound c
+unfolding height
+not-held None p e s k = absurd (true≢false e)
+not-held (Some c) p e s k = grind (arith, tells)

@@ -121,7 +121,7 @@ module _ (rule : Rule) (t : Table) (h : History) (v w : View) (x : Decide) (ds :
   to-line lo (y ∷ ys) k q far d (List·Memᴰ·head e) to =
       let s = i .reaches .inside (x .port) q (k .0 .reach q (subst (λ z. goesTo q z ≡ true) e to) far) in
       let most = i .reaches .most in
-      and-from (ltb (x .port) 8) (ltb q 8 && not (eqb (x .port) q)) (lt-ltb (x .port) 8 port8) (and-from (ltb q 8) (not (eqb (x .port) q)) (lt-ltb q 8 (let b = s .1 in omega (arith, b, most))) (not-from-false (eqb (x .port) q) (ne-eqb (x .port) q (s .2))))
+      and-from (ltb (x .port) 8) (ltb q 8 && not (eqb (x .port) q)) (lt-ltb (x .port) 8 port8) (and-from (ltb q 8) (not (eqb (x .port) q)) (lt-ltb q 8 (let b = s .1 in omega (arith, b, most))) (not-from-false (eqb (x .port) q) (ne-eqb (x .port) q (λ z. s .2 (sym z)))))
   to-line lo (y ∷ ys) k q far d (List·Memᴰ·tail a) to = to-line (heightOf y + 1) ys (k .1) q far d a to
 
   no-line : (q : ℕ) → (q ≡ x .port → ⊥) → isLine (x .port) q ≡ false → sentTo q ds ≡ []

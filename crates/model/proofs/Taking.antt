@@ -13,7 +13,6 @@ use Rattle.std.proofs.shelf.Sums.{folded-push}
 use Rattle.std.specs.declared.option.Option.{Option}
 use Rattle.std.specs.declared.option.Option.the-variants.{Some, None}
 use Rattle.std.proofs.shelf.Tests.{eqb-true, eq-eqb, cases-bool, and-parts, and-cases, cond-true, cond-false, ltb-false, true≢false}
-use Rattle.records.specs.Keys.{pairBefore, decidedBefore}
 use Rattle.records.specs.declared.fault.NetFault.the-variants.{NoSuchPort, NothingWaits, Held}
 use Rattle.records.specs.declared.stamp.Pair.{Pair}
 use Rattle.records.specs.declared.notice.Notice.{Notice}
@@ -31,7 +30,7 @@ use Rattle.model.specs.Steps.{Fetches, Releases, pairOf, joined, changed, turn
 use Rattle.model.specs.Histories.{History, fetched, released, common, book}
 use Rattle.model.specs.Law.{In, about, aboutBerth, saidBy}
 use Rattle.model.proofs.Lists.{insert, cond-ap}
-use Rattle.model.proofs.Heights.{height, heightOf, key, level, bound, AnySmall, Small, pair-height, raised-bound, raised-small}
+use Rattle.model.proofs.Heights.{height, heightOf, key, level, bound, AnySmall, Small, not-held, raised-bound, raised-small}
 use Rattle.model.proofs.Inv.{State, Inv, taken}
 use Rattle.model.proofs.Inv as Core
 use Rattle.model.proofs.Fetch.{kept-by-fetch}
@@ -102,10 +101,6 @@ module _ (rule : Rule) (t : Table) (h : History) (v w : View) (port source : ℕ
       ]
 
 -- RELEASE
-
-not-held : (c : Option Pair) (p : Pair) → holds c p ≡ false → AnySmall c → Small p → height p < bound c
-not-held None p e s k = absurd (true≢false e)
-not-held (Some c) p e s k = let a = ltb-false (height c) (height p) (sym (pair-height c p s k) ∙ e) in omega (arith, a)
 
 showing-more : (rule : Rule) (p : ℕ) (b : Bool) (xs : List Decided) (n : Decided) → showing rule p (xs ++ cond b (n ∷ []) []) ≡ cond b (turned rule p (n .notice) (showing rule p xs) .list) (showing rule p xs)
 showing-more rule p true xs n = folded-push (λ l x. turned rule p (x .notice) l .list) [] xs n

@@ -24,7 +24,7 @@ use Rattle.model.proofs.Answering.{handed-in, can-hand-in, settled, can-decide
 abbrev two : Table
 two = record { ports = 2; mask = λ f. cond (eqb f 0) 2 (cond (eqb f 1) 1 0) }
 
-to-other : (f p : ℕ) → sends two f p ≡ true → (f < 2) × (p < 2) × (f ≡ p → ⊥)
+to-other : (f p : ℕ) → sends two f p ≡ true → (f < 2) × (p < 2) × (p ≡ f → ⊥)
 to-other f p e = elim (cases-bool (eqb f 0)) [
   | inl z ↦
       let g = eqb-true f 0 z in

@@ -1,7 +1,7 @@
 -- The edges of the rules, each with its numbers. Assumes nothing.
 use mathlib.Core.Path.{_≡_}
 use mathlib.Core.Bool.{true, false}
-use mathlib.Core.List.{List, _∷_}
+use mathlib.Core.List.{List, [], _∷_}
 use Prim.Native.Nat.{ℕ, _<_}
 use Rattle.std.specs.declared.option.Option.the-variants.{Some}
 use Rattle.records.specs.Keys.{stampBefore}
@@ -9,7 +9,10 @@ use Rattle.records.specs.Numbers.{netNumber}
 use Rattle.records.specs.declared.fault.NetFault.the-variants.{StepUsedUp}
 use Rattle.records.specs.declared.stamp.Pair.{Pair}
 use Rattle.records.specs.declared.stamp.Stamp.{Stamp}
+use Rattle.records.specs.declared.notice.Action.the-variants.{Leave}
 use Rattle.records.specs.declared.notice.Handed.{Handed}
+use Rattle.boards.specs.declared.outcome.Outcome.the-variants.{Gone}
+use Rattle.model.specs.Queues.{queueTurn}
 use Rattle.model.specs.Stamping.{nextPair, stamped, stampable}
 use Rattle.model.specs.Views.{PortView, View}
 use Rattle.model.specs.Holding.{holds}
@@ -41,5 +44,7 @@ pub record Edges : Type 0 where
   -- a lower clearance holds, an equal one does not
   pub held : holds (Some (pair 100 0)) (pair 100 1) ≡ true
   pub not-held : holds (Some (pair 100 1)) (pair 100 1) ≡ false
+  -- on the queue board, of 7 and then 9, 7 leaves
+  pub queue : queueTurn (7 ∷ 9 ∷ []) Leave 7 ≡ record { list = 9 ∷ []; outcome = Gone }
   -- one dispatcher's readings 50, then 40
   pub clocks : (o : PortView) (x y : HandIn) → o .clock (x .dispatcher) ≡ 0 → y .dispatcher ≡ x .dispatcher → x .reading ≡ 50 → y .reading ≡ 40 → (handedOf o x .clock ≡ 50) × (handedOf (afterHandIn x o) y .clock ≡ 50)

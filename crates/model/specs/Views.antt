@@ -54,7 +54,7 @@ outside t p = not (ltb p (t .ports))
 pub record Reaches (t : Table) : Type 0 where
   pub least : 2 ≤ t .ports
   pub most : t .ports ≤ 8
-  pub inside : (f p : ℕ) → sends t f p ≡ true → (f < t .ports) × (p < t .ports) × (f ≡ p → ⊥)
+  pub inside : (f p : ℕ) → sends t f p ≡ true → (f < t .ports) × (p < t .ports) × (p ≡ f → ⊥)
 
 -- a port of a net that was just opened
 abbrev pub fresh : PortView
