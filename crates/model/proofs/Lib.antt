@@ -1,5 +1,6 @@
 pub mod Lists
 pub mod Heights
+pub mod Rules
 pub mod Inv
 pub mod Carry
 pub mod Stamp

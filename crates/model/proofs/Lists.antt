@@ -226,6 +226,7 @@ module _ {X : Type 0} (key : X → ℕ) where
           let k = leb-false (key x) c e in
           let l : key x < key y = all-mem (λ z. key x < key z) xs (h .0) d in
           lt-leb (key y) c (omega (arith, k, l))
+
       step : (b : Bool) → leb (key x) c ≡ b → kept-by (λ x. leb (key x) c) xs ++ kept-by (λ x. not (leb (key x) c)) xs ≡ xs → cond b (x ∷ kept-by (λ x. leb (key x) c) xs) (kept-by (λ x. leb (key x) c) xs) ++ cond (not b) (x ∷ kept-by (λ x. not (leb (key x) c)) xs) (kept-by (λ x. not (leb (key x) c)) xs) ≡ x ∷ xs
       step true e ih = ap (λ l. x ∷ l) ih
       step false e ih =

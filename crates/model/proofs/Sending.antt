@@ -33,8 +33,9 @@ use Rattle.model.specs.Steps.{Decides, Clears, pairOf, afterDecide, afterClear
 use Rattle.model.specs.Histories.{History, decided, cleared, common, book, isFrom, handedBy}
 use Rattle.model.specs.Law.{In, saidBy}
 use Rattle.model.proofs.Lists.{kept-mem, kept-passes, kept-none, kept-map}
-use Rattle.model.proofs.Heights.{height, heightOf, key, bound, AnySmall, Small, fits-small, next-above}
-use Rattle.model.proofs.Inv.{State, AtMostOne, Inv} 
+use Rattle.model.proofs.Heights.{height, heightOf, key, bound, AnySmall, Small, fits-small}
+use Rattle.model.proofs.Rules.{next-above, clear-floor}
+use Rattle.model.proofs.Inv.{State, AtMostOne, Inv}
 use Rattle.model.proofs.Inv as Core
 use Rattle.model.proofs.Clear.{kept-by-clear}
 use Rattle.model.proofs.Batch.{insertAll, copies, lastOf, Stampable, AllStampable, Good, kept-by-batch, batch-last, good-places, stampable-good}
@@ -213,10 +214,10 @@ module _ (rule : Rule) (t : Table) (h : History) (v w : View) (x : Decide) (ds :
     ];
     desks = port-all v w (x .port) (afterDecide x) (r .ports) (Desk (sends t)) (desk-decide (sends t) (x .port) o x) (i .desks);
     said = λ g d.
-      i .said g d
-      ∙ ap (λ l. saidBy g d (common h) ++ l) (sym (shrinks g d))
-      ∙ sym (append-assoc (saidBy g d (common h)) (saidBy g d ds) (undecidedOf g d (w .port g)))
-      ∙ ap (λ l. l ++ undecidedOf g d (w .port g)) (sym (said-more g d));
+        i .said g d
+        ∙ ap (λ l. saidBy g d (common h) ++ l) (sym (shrinks g d))
+        ∙ sym (append-assoc (saidBy g d (common h)) (saidBy g d ds) (undecidedOf g d (w .port g)))
+        ∙ ap (λ l. l ++ undecidedOf g d (w .port g)) (sym (said-more g d));
     shown = λ p a b. r .boards p a b ∙ i .shown p a b;
   }
 
@@ -253,7 +254,7 @@ module _ (rule : Rule) (t : Table) (h : History) (v w : View) (port reading : �
     marks = record {
       above = subst (λ z. bound (v .port port .floor) ≤ height z) (sym (r .pair)) (next-above (v .port port .floor) reading (i .floors port));
       single = λ q. one-empty (sends (v .table) port q) (record { pair = p; port = port });
-      floor = port-field v w port (afterClear p) (r .ports) (λ z. bound (z .floor));
+      floor = λ q. port-field v w port (afterClear p) (r .ports) (λ z. bound (z .floor)) q ∙ ap (λ k. cond (eqb q port) k (bound (v .port q .floor))) (clear-floor p (v .port q));
       clear = λ q g. port-same v w port (afterClear p) (r .ports) (λ z. bound (z .clearance g)) (λ _. refl) q;
       line = λ g q. r .lines .held g q ∙ line-cases (eqb g port) (v .line g q .held) (clearanceOn (v .table) (record { pair = p; port = port }) g q) (puts q)
           (λ e. ap (λ b. cond (b && sends (v .table) port q) (Empty (record { pair = p; port = port }) ∷ []) []) e)

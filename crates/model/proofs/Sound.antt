@@ -96,9 +96,9 @@ books {rule} {t} {h} {v} i p =
     sym (kept-twice (goesTo p) u (common h)
     ∙ ap (kept-by u) (sp .is)
     ∙ front-is (book p h) (sp .rest) (lastReleased p h)
-        (subst (Sorted key) (sp .is) (sorted-kept key (goesTo p) (common h) (i .order .sorted)))
-        (subst (λ l. (x : Decided) → In x l → Good x) (sp .is) (λ x d. good i x (kept-mem (goesTo p) (common h) d)))
-        (lasts p h))
+    (subst (Sorted key) (sp .is) (sorted-kept key (goesTo p) (common h) (i .order .sorted)))
+    (subst (λ l. (x : Decided) → In x l → Good x) (sp .is) (λ x d. good i x (kept-mem (goesTo p) (common h) d)))
+    (lasts p h))
 
 -- THE BOARDS
 

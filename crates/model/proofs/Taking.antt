@@ -30,7 +30,8 @@ use Rattle.model.specs.Steps.{Fetches, Releases, pairOf, joined, changed, turn
 use Rattle.model.specs.Histories.{History, fetched, released, common, book}
 use Rattle.model.specs.Law.{In, about, aboutBerth, saidBy}
 use Rattle.model.proofs.Lists.{insert, cond-ap}
-use Rattle.model.proofs.Heights.{height, heightOf, key, level, bound, AnySmall, Small, not-held, raised-bound, raised-small}
+use Rattle.model.proofs.Heights.{height, heightOf, key, level, bound, AnySmall, Small}
+use Rattle.model.proofs.Rules.{release-floor, raised-small, fetch-clearance, not-held}
 use Rattle.model.proofs.Inv.{State, Inv, taken}
 use Rattle.model.proofs.Inv as Core
 use Rattle.model.proofs.Fetch.{kept-by-fetch}
@@ -42,15 +43,11 @@ use Rattle.model.proofs.Lives.{stateOf, undecidedOf, showing, Whole, cond-when
 
 -- FETCH
 
-level-pair : (x : Record) → level x ≡ height (pairOf x)
-level-pair (Carries d) = refl
-level-pair (Empty s) = refl
-
-clear-cases : (a b : Bool) (x : Record) (c : Option Pair) → cond b (bound (cond a (Some (pairOf x)) c)) (bound c) ≡ cond (a && b) (level x + 1) (bound c)
-clear-cases true true x c = ap (λ n. n + 1) (sym (level-pair x))
-clear-cases true false x c = refl
-clear-cases false true x c = refl
-clear-cases false false x c = refl
+both-tests : (a b : Bool) (n k : ℕ) → cond b (cond a n k) k ≡ cond (a && b) n k
+both-tests true true n k = refl
+both-tests true false n k = refl
+both-tests false true n k = refl
+both-tests false false n k = refl
 
 small-changed : (b : Bool) (p : Pair) (c : Option Pair) → Small p → AnySmall c → AnySmall (cond b (Some p) c)
 small-changed true p c s t = s
@@ -73,7 +70,7 @@ module _ (rule : Rule) (t : Table) (h : History) (v w : View) (port source : ℕ
     rest = w .line source port .held;
     before = r .lines .held;
     floor = port-same v w port (afterFetch source (r .got)) (r .ports) (λ z. bound (z .floor)) (λ _. refl);
-    clear = λ q g. port-field v w port (afterFetch source (r .got)) (r .ports) (λ z. bound (z .clearance g)) q ∙ clear-cases (eqb g source) (eqb q port) (r .got) (v .port q .clearance g);
+    clear = λ q g. port-field v w port (afterFetch source (r .got)) (r .ports) (λ z. bound (z .clearance g)) q ∙ ap (λ k. cond (eqb q port) k (bound (v .port q .clearance g))) (fetch-clearance source (r .got) (v .port q) g) ∙ both-tests (eqb g source) (eqb q port) (level (r .got) + 1) (bound (v .port q .clearance g));
     waiting = λ q. port-field v w port (afterFetch source (r .got)) (r .ports) (λ z. z .waiting) q ∙ ap (λ l. cond (eqb q port) l (v .port q .waiting)) (joins (r .got) refl q);
     line = held-by (v .line) (w .line) source port (w .line source port .held) refl (r .lines .others);
   }
@@ -147,7 +144,7 @@ module _ (rule : Rule) (t : Table) (h : History) (v w : View) (port : ℕ) (n : 
     others = r .lowest .0;
     before = r .lowest .1;
     free = free;
-    floor = λ q. port-field v w port (afterRelease n) (r .ports) (λ z. bound (z .floor)) q ∙ ap (λ k. cond (eqb q port) k (bound (v .port q .floor))) (raised-bound (v .port q .floor) (n .stamp .pair) (i .floors q) small);
+    floor = λ q. port-field v w port (afterRelease n) (r .ports) (λ z. bound (z .floor)) q ∙ ap (λ k. cond (eqb q port) k (bound (v .port q .floor))) (release-floor n (v .port q) (i .floors q) small);
     clear = λ q g. port-same v w port (afterRelease n) (r .ports) (λ z. bound (z .clearance g)) (λ _. refl) q;
     waiting = λ q. port-field v w port (afterRelease n) (r .ports) (λ z. z .waiting) q ∙ cond-when (eqb q port) _ _ _ (λ e. ap rest (ap (λ z. v .port z .waiting) (eqb-true q port e) ∙ r .lowest .1));
     line = λ g q. ap (λ l. l .held) (r .lines g q);

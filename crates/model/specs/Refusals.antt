@@ -23,11 +23,10 @@ use Rattle.model.specs.Holding.{holders}
 use Rattle.model.specs.Batches.{goesTo, sentTo, copiesOn, countFrom}
 use Rattle.model.specs.Calls.{HandIn, Decide, Call, hand-in, decide, clear, bring, fetch, release, decision}
 
+infixr 20 _when_else_
 -- this fault where the test passes, and otherwise what the next tests give
 abbrev pub _when_else_ : NetFault → Bool → Option NetFault → Option NetFault
 f when b else next = cond b (Some f) next
-
-infixr 20 _when_else_
 
 -- the mask names no port but the port itself and those in its reach. It is one byte: no port is above 7
 abbrev pub inReach : Table → ℕ → ℕ → Bool

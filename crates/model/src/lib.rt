@@ -12,23 +12,19 @@ ghost use Rattle.model.specs.Views.{View};
 // boards.
 pub fn law_of_one_order()
     ensures { λ _. ⌜ LawOfOneOrder ⌝ }
-{
-}
+{}
 
 // No call is without an answer: it is refused, or leads to a next net.
 pub fn each_call_answers()
     ensures { λ _. ⌜ ((depth : ℕ) (rule : Rule) (v : View) (c : Call) → Answered depth rule v c) ⌝ }
-{
-}
+{}
 
 // A run of two ports with a late link and two releases can be had.
 pub fn late_link()
     ensures { λ _. ⌜ ((rule : Rule) → LateLink rule) ⌝ }
-{
-}
+{}
 
 // The rules at their edges.
 pub fn edges()
     ensures { λ _. ⌜ Edges ⌝ }
-{
-}
+{}
