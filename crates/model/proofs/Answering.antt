@@ -1,4 +1,4 @@
--- Each call has an answer: where no test refuses it, there is a net that it leads to.
+-- Each call has an answer, and only one: it is refused, or there is a net that it leads to.
 use mathlib.Core.Path.{_≡_, refl, sym, ap, subst, _∙_}
 use mathlib.Core.Logic.{_⊎_, inl, inr}
 use mathlib.Core.Bool.{Bool, true, false, cond, not, _&&_, _||_}
@@ -18,14 +18,23 @@ use Rattle.records.specs.declared.notice.Record.{Record}
 use Rattle.wires.specs.Lines.{Line, Lines, SameBut}
 use Rattle.wires.specs.Growths.{Extra, Grown}
 use Rattle.boards.specs.Rules.{Rule}
+use Rattle.boards.specs.declared.outcome.Outcome.{Outcome}
 use Rattle.model.specs.Views.{PortView, View, sends, outside}
 use Rattle.model.specs.Batches.{copiesOn, copiesOf}
 use Rattle.model.specs.Calls.{HandIn, Decide, Call, hand-in, decide, clear, bring, fetch, release, decision}
 use Rattle.model.specs.Refusals.{handInFault, decideFault, clearFault, bringFault, fetchFault, releaseFault, faultOf, oldest, oldestOf, isNone, clearanceOn, clearanceStamp}
 use Rattle.model.specs.Steps.{HandsIn, Decides, Clears, Brings, Fetches, Releases, afterHandIn, afterDecide, afterClear, afterFetch, afterRelease, turned, isAbout}
-use Rattle.model.specs.Histories.{handed, decided, cleared, brought, fetched, released, refused}
-use Rattle.model.specs.Runs.{Answered}
+use Rattle.model.specs.Histories.{Told, handed, decided, cleared, brought, fetched, released, refused, Step}
+use Rattle.model.specs.Answers.{callOf, Alike, OneAnswer}
+use Rattle.model.proofs.Lists.{cond-ap}
+use Rattle.model.proofs.Lives.{held-by}
 use Rattle.model.proofs.Passing.{passes, some-none}
+
+record Answered (depth : ℕ) (rule : Rule) (v : View) (c : Call) : Type 0 where
+  told : Told
+  next : View
+  call : callOf told ≡ c
+  step : Step depth rule v told next
 
 abbrev withPort : View → ℕ → (PortView → PortView) → ℕ → PortView
 withPort v p after q = cond (eqb q p) (after (v .port q)) (v .port q)
@@ -51,6 +60,15 @@ line-others l a b z p q n = elim (cases-bool (eqb p a && eqb q b)) [
   | inl e ↦ let both = and-parts (eqb p a) (eqb q b) e in absurd (n (eqb-true p a (both .0), eqb-true q b (both .1)))
   | inr e ↦ cond-false (eqb p a && eqb q b) z (l p q) e
 ]
+
+some-same : (g f : NetFault) → Some g ≡ Some f → g ≡ f
+some-same g f e = cc
+
+cons-head : {X : Type 0} {x y : X} {xs ys : List X} → x ∷ xs ≡ y ∷ ys → x ≡ y
+cons-head e = cc
+
+cons-tail : {X : Type 0} {x y : X} {xs ys : List X} → x ∷ xs ≡ y ∷ ys → xs ≡ ys
+cons-tail e = cc
 
 module _ (depth : ℕ) (rule : Rule) (v : View) where
   abbrev pub handed-in : HandIn → View
@@ -152,5 +170,69 @@ module _ (depth : ℕ) (rule : Rule) (v : View) where
   answer-by c None e = accepted c e
   answer-by c (Some f) e = record { told = refused c f; next = v; call = refl; step = record { fault = e; same = refl } }
 
-  pub answered : (c : Call) → Answered depth rule v c
+  answered : (c : Call) → Answered depth rule v c
   answered c = answer-by c (faultOf depth v c) refl
+
+  -- AND NO OTHER ANSWER
+
+  by-none : (c : Call) (P : Answered depth rule v c → Type 0) (f : Option NetFault) (e : faultOf depth v c ≡ f) → f ≡ None → ((z : faultOf depth v c ≡ None) → P (accepted c z)) → P (answer-by c f e)
+  unfolding answer-by
+  by-none c P None e is p = p e
+  by-none c P (Some f) e is p = absurd (some-none f is)
+
+  by-some : (c : Call) (g : NetFault) (f : Option NetFault) (e : faultOf depth v c ≡ f) → f ≡ Some g → (refused c g ≡ answer-by c f e .told) × (v ≡ answer-by c f e .next)
+  unfolding answer-by
+  by-some c g None e is = absurd (some-none g (sym is))
+  by-some c g (Some f) e is = (ap (refused c) (some-same g f (sym is)), refl)
+
+  abbrev Only : (c : Call) → Told → View → Answered depth rule v c → Type 0
+  Only c e w a = (e ≡ a .told) × Alike w (a .next)
+
+  only-fetch : (port source : ℕ) (w : View) → Fetches v port source w → (e : fetchFault v port source ≡ None) (l : List Record) (is : v .line source port .held ≡ l) (b : Bool) (some : eqb (v .line source port .arrived) 0 ≡ b) (n : isNone (cond b None (oldestOf l)) ≡ false) → Only (fetch port source) (fetched port source) w (fetch-answer port source e l is b some n)
+  unfolding fetch-answer
+  only-fetch port source w r e l is true some n = absurd (true≢false n)
+  only-fetch port source w r e [] is false some n = absurd (true≢false n)
+  only-fetch port source w r e (x ∷ xs) is false some n =
+      let cons : r .got ∷ w .line source port .held ≡ x ∷ xs = sym (r .lines .held) ∙ is in
+      let head : r .got ≡ x = cons-head cons in
+      let tail : w .line source port .held ≡ xs = cons-tail cons in (
+        refl,
+        record {
+          table = r .table;
+          ports = λ q. r .ports q ∙ ap (λ z. withPort v port (afterFetch source z) q) head;
+          lines = λ g q. held-by (v .line) (w .line) source port xs tail (r .lines .others) g q ∙ sym (cond-ap (λ l. l .held) (eqb g source && eqb q port) (record { held = xs; arrived = v .line source port .arrived - 1 }) (v .line g q));
+          boards = r .boards;
+        },
+      )
+
+  only-release : (port : ℕ) (w : View) (m : Decided) (o : Outcome) → Releases rule v port m o w → (e : releaseFault v port ≡ None) (l : List Decided) (is : v .port port .waiting ≡ l) (n : eqb (length l) 0 ≡ false) → Only (release port) (released port m o) w (release-answer port e l is n)
+  unfolding release-answer
+  only-release port w m o r e [] is n = absurd (true≢false n)
+  only-release port w m o r e (x ∷ xs) is n =
+      let head : m ≡ x = cons-head (sym (r .lowest .1) ∙ is) in (
+        ap (released port m) (r .outcome) ∙ ap (λ y. released port y (turned rule port (y .notice) (v .shown port (y .notice .home) (y .notice .berth)) .outcome)) head,
+        record {
+          table = r .table;
+          ports = λ q. r .ports q ∙ ap (λ y. withPort v port (afterRelease y) q) head;
+          lines = λ g q. ap (λ l. l .held) (r .lines g q);
+          boards = λ p a b. r .boards p a b ∙ ap (λ y. let-go port y .shown p a b) head;
+        },
+      )
+
+  only-step : (e : Told) (w : View) → Step depth rule v e w → Only (callOf e) e w (answered (callOf e))
+  unfolding answered accepted
+  only-step (handed x n) w r = by-none (hand-in x) (Only (hand-in x) (handed x n) w) (handInFault v x) refl (r .accepted) (λ z. (ap (handed x) (r .answer), record { table = r .table; ports = r .ports; lines = λ g q. ap (λ l. l .held) (r .lines g q); boards = r .boards }))
+  only-step (decided x ds n m) w r = by-none (decide x) (Only (decide x) (decided x ds n m) w) (decideFault depth v x) refl (r .accepted) (λ z.
+      (ap (λ k. decided x ds k m) (r .counted) ∙ ap (decided x ds (length ds)) (r .sent) ∙ ap (λ l. decided x l (length l) (copiesOf (x .port) l)) (r .batch), record { table = r .table; ports = r .ports; lines = λ g q. r .lines .held g q ∙ ap (λ l. v .line g q .held ++ copiesOn (x .port) l g q) (r .batch); boards = r .boards }))
+  only-step (cleared port reading p) w r = by-none (clear port reading) (Only (clear port reading) (cleared port reading p) w) (clearFault depth v port reading) refl (r .accepted) (λ z.
+      (ap (cleared port reading) (r .pair), record { table = r .table; ports = λ q. r .ports q ∙ ap (λ y. withPort v port (afterClear y) q) (r .pair); lines = λ g q. r .lines .held g q ∙ ap (λ y. v .line g q .held ++ clearanceOn (v .table) (record { pair = y; port = port }) g q) (r .pair); boards = r .boards }))
+  only-step (brought a b) w r = by-none (bring a b) (Only (bring a b) (brought a b) w) (bringFault v a b) refl (r .accepted) (λ z.
+      (refl, record { table = r .table; ports = r .ports; lines = λ g q. held-by (v .line) (w .line) a b (v .line a b .held) (r .lines .held) (r .lines .others) g q ∙ sym (cond-ap (λ l. l .held) (eqb g a && eqb q b) (landed (v .line a b)) (v .line g q)); boards = r .boards }))
+  only-step (fetched port source) w r = by-none (fetch port source) (Only (fetch port source) (fetched port source) w) (fetchFault v port source) refl (r .accepted) (λ z. only-fetch port source w r z (v .line source port .held) refl (eqb (v .line source port .arrived) 0) refl _)
+  only-step (released port m o) w r = by-none (release port) (Only (release port) (released port m o) w) (releaseFault v port) refl (r .accepted) (λ z. only-release port w m o r z (v .port port .waiting) refl _)
+  only-step (refused c f) w r = let a = by-some c f (faultOf depth v c) refl (r .fault) in (a .0, subst (λ z. Alike z (answered c .next)) (sym (r .same ∙ a .1)) (record { table = refl; ports = λ _. refl; lines = λ _ _. refl; boards = λ _ _ _. refl }))
+
+  pub one-answer : (c : Call) → OneAnswer depth rule v c
+  one-answer c =
+      let a = answered c in
+      record { told = a .told; next = a .next; call = a .call; step = a .step; only = λ e w is s. subst (λ k. Only k e w (answered k)) is (only-step e w s) }

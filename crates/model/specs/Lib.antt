@@ -11,3 +11,4 @@ pub mod Law
 pub mod Queues
 pub mod Edges
 pub mod Runs
+pub mod Answers

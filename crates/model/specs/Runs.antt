@@ -1,15 +1,15 @@
--- A run of two ports with a late link, and that no call is left without an answer. Assumes nothing.
+-- A run of two ports with a late link. Assumes nothing.
 use mathlib.Core.Path.{_≡_}
-use mathlib.Core.List.{List, [], _∷_}
+use mathlib.Core.List.{[], _∷_}
 use Prim.Native.Nat.{ℕ}
 use Rattle.records.specs.declared.mask.Mask.{Mask}
 use Rattle.records.specs.declared.fault.NetFault.the-variants.{NothingArrived, Held}
 use Rattle.records.specs.declared.notice.Decided.{Decided}
-use Rattle.boards.specs.Rules.{Rule, Vessels}
+use Rattle.boards.specs.Rules.{Rule}
 use Rattle.model.specs.Views.{View}
-use Rattle.model.specs.Calls.{HandIn, Decide, Call, hand-in, decide, clear, bring, fetch, release, noticeOf}
+use Rattle.model.specs.Calls.{HandIn, Decide, fetch, release, noticeOf}
 use Rattle.model.specs.Steps.{turned}
-use Rattle.model.specs.Histories.{Told, handed, decided, cleared, brought, fetched, released, refused, History, common, book, Step, Lived}
+use Rattle.model.specs.Histories.{handed, decided, brought, fetched, released, refused, History, common, book, Lived}
 use Rattle.model.specs.Edges.{stamp}
 
 -- ports 0 and 1, each sending to the other. Port 0 says at 100 that vessel 7 takes berth 4 of port 0, port 1 says at 90
@@ -51,20 +51,3 @@ pub record LateLink (rule : Rule) : Type 0 where
   pub common-list : common (lateLink rule) ≡ nineDecided ∷ sevenDecided ∷ []
   pub book-1 : book 1 (lateLink rule) ≡ nineDecided ∷ sevenDecided ∷ []
   pub book-0 : book 0 (lateLink rule) ≡ []
-
--- the call that an answer belongs to
-abbrev pub callOf : Told → Call
-callOf (handed x n) = hand-in x
-callOf (decided x ds n m) = decide x
-callOf (cleared port reading p) = clear port reading
-callOf (brought from to) = bring from to
-callOf (fetched port source) = fetch port source
-callOf (released port d o) = release port
-callOf (refused c f) = c
-
--- a net that answers the call so
-pub record Answered (depth : ℕ) (rule : Rule) (v : View) (c : Call) : Type 0 where
-  pub told : Told
-  pub next : View
-  pub call : callOf told ≡ c
-  pub step : Step depth rule v told next
