@@ -140,3 +140,7 @@ one-order {rule} {t} {h} {v} i = record {
 
 pub law : LawOfOneOrder
 law depth rule h v l = one-order (whole l .1)
+
+-- one more call: the net has lived, and keeps the law
+pub lives-on : {depth : ℕ} {rule : Rule} {h : History} {v w : View} {e : Told} → Lived depth rule h v → Step depth rule v e w → Lived depth rule (e ∷ h) w × OneOrder (e ∷ h) w
+lives-on {depth} {rule} {h} {v} {w} {e} l s = let more : Lived depth rule (e ∷ h) w = called l s in (more, law depth rule (e ∷ h) w more)
