@@ -7,16 +7,17 @@ use native.Mathlib.Omega.{arith}
 use lib.ListN.{length, take, drop}
 use Rattle.std.specs.shelf.Lists.{inserted}
 use Rattle.ordered.specs.Lists.{Put, Taken}
-use Rattle.ordered.specs.Orders.{Total, Rising, Strict, pairsPass, placeOf, placed}
-use Rattle.ordered.proofs.Rises.{placed-is, rising-placed, strict-placed, pairs-first, pairs-rest}
+use Rattle.ordered.specs.Orders.{Total, Rising, Strict, placed, Place}
+use Rattle.ordered.proofs.Rises.{placeOf-is, placed-is, rising-placed, strict-placed, pairs-first, pairs-rest}
 
 module _ {X : Type 0} {key : X → List ℕ} {before : X → X → Bool} (total : Total key before) (x : X) (len : ℕ) (old new : List X) where
-  pub put-in : (at : ℕ) → len < length old → at ≡ placeOf before x (take len old) → take (len + 1) new ≡ inserted (take len old) at x → drop (len + 1) new ≡ drop (len + 1) old → Put key before x len at old new
+  pub put-in : (at : ℕ) → len < length old → Place before x (take len old) at → take (len + 1) new ≡ inserted (take len old) at x → drop (len + 1) new ≡ drop (len + 1) old → Put key before x len at old new
   put-in at room is now beyond =
-      let entries : take (len + 1) new ≡ placed before x (take len old) = now ∙ ap (λ i. inserted (take len old) i x) is ∙ sym (placed-is before x (take len old)) in
+      let place = placeOf-is before x (take len old) at is in
+      let entries : take (len + 1) new ≡ placed before x (take len old) = now ∙ ap (λ i. inserted (take len old) i x) place ∙ sym (placed-is before x (take len old)) in
       record {
         room = room;
-        place-is = is;
+        place-is = place;
         entries = entries;
         beyond = beyond;
         rising = λ up. subst (Rising before) (sym entries) (rising-placed total x (take len old) up);

@@ -8,23 +8,19 @@ use native.Mathlib.Omega.{arith}
 use lib.ListN.{length, getD, take, drop}
 use Rattle.std.specs.shelf.Lists.{All, inserted}
 use Rattle.std.proofs.shelf.Tests.{both-ways, cases-bool, and-parts, and-from, not-true, not-from-false, cond-true, cond-false, cond-both}
-use Rattle.std.proofs.shelf.Lists.{at-drop-more, at-drop-all}
-use Rattle.ordered.specs.Orders.{Total, allPass, pairsPass, Least, Rising, Strict, Fresh, placed, placeOf}
+use Rattle.ordered.specs.Orders.{Total, allPass, pairsPass, Least, Rising, Strict, Fresh, placed, placeOf, Place}
 
 module _ {X : Type 0} (before : X → X → Bool) (x : X) where
   pub placeOf-le : (xs : List X) → placeOf before x xs ≤ length xs
   placeOf-le [] = omega arith
   placeOf-le (y ∷ ys) = cond-both (before x y) 0 (suc (placeOf before x ys)) (λ n. n ≤ suc (length ys)) (λ e. omega arith) (λ e. omega (arith, placeOf-le ys))
 
-  -- what is left of the list from place i on: its first entry is one that x is before, or is not, or there is none
-  pub placeOf-here : (xs : List X) (i : ℕ) (e : X) → i < length xs → e ≡ getD xs i e → before x e ≡ true → placeOf before x (drop i xs) ≡ 0
-  placeOf-here xs i e lt read now = at-drop-more (placeOf before x) xs i e lt ∙ rw (← read, now)
-
-  pub placeOf-past : (xs : List X) (i : ℕ) (e : X) → i < length xs → e ≡ getD xs i e → before x e ≡ false → placeOf before x (drop i xs) ≡ suc (placeOf before x (drop (i + 1) xs))
-  placeOf-past xs i e lt read now = at-drop-more (placeOf before x) xs i e lt ∙ rw (← read, now)
-
-  pub placeOf-all : (xs : List X) (i : ℕ) → length xs ≤ i → placeOf before x (drop i xs) ≡ 0
-  placeOf-all xs i le = at-drop-all (placeOf before x) xs i le
+  pub placeOf-is : (xs : List X) (i : ℕ) → Place before x xs i → i ≡ placeOf before x xs
+  placeOf-is [] i p = omega (arith, p .within)
+  placeOf-is (y ∷ ys) zero p = rw (p .front y (omega arith))
+  placeOf-is (y ∷ ys) (suc i) p =
+      rw (p .behind 0 y (omega arith))
+      (ap suc (placeOf-is ys i (record { within = omega (arith, p .within); behind = λ k d l. p .behind (suc k) d (omega arith); front = λ d l. p .front d (omega arith) })))
 
   -- the entry stands at its place, between those in front of it and those behind
   pub placed-is : (xs : List X) → placed before x xs ≡ inserted xs (placeOf before x xs) x

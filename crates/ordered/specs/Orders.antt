@@ -3,8 +3,9 @@ use mathlib.Core.Path.{_≡_}
 use mathlib.Core.Bool.{Bool, true, false, not, cond, _&&_}
 use mathlib.Core.List.{List, [], _∷_}
 use mathlib.Core.Logic.{_⊎_}
-use Prim.Native.Nat.{ℕ, suc}
+use Prim.Native.Nat.{ℕ, suc, _<_, _≤_}
 use lib.Dec.{ltb, eqb}
+use lib.ListN.{length, getD}
 use Rattle.std.specs.shelf.Lists.{All}
 
 -- by one number of the entry
@@ -57,3 +58,9 @@ placed before x (y ∷ ys) = cond (before x y) (x ∷ y ∷ ys) (y ∷ placed be
 abbrev pub placeOf : {X : Type 0} → (X → X → Bool) → X → List X → ℕ
 placeOf before x [] = 0
 placeOf before x (y ∷ ys) = cond (before x y) 0 (suc (placeOf before x ys))
+
+-- i is that number: x is before none of the first i entries, and before the next if there is one
+pub record Place {X : Type 0} (before : X → X → Bool) (x : X) (xs : List X) (i : ℕ) : Type 0 where
+  pub within : i ≤ length xs
+  pub behind : (k : ℕ) (d : X) → k < i → before x (getD xs k d) ≡ false
+  pub front : (d : X) → i < length xs → before x (getD xs i d) ≡ true

@@ -1,7 +1,7 @@
 // The ordered list over memory that the caller owns: the first `len` places hold the entries, and the rest is spare.
-ghost use Prim.Native.Nat.{ℕ, _≤_};
-ghost use Rattle.ordered.specs.Lists.{Insertion, Taking};
-ghost use Rattle.ordered.specs.Orders.{placeOf};
+ghost use Prim.Native.Nat.{ℕ, _+_, _<_, _≤_};
+ghost use Rattle.ordered.specs.Lists.{Insertion, Put, Taken, Taking};
+ghost use Rattle.ordered.specs.Orders.{Place};
 ghost use lib.ListN.{length, take};
 ghost use mathlib.Core.List.{_∷_};
 ghost use mathlib.Core.Path.{_≡_};
@@ -11,10 +11,9 @@ use crate::entry::Entry;
 #[derive(Clone, Copy, PartialEq, Eq, Debug)]
 pub struct Full;
 
-// How many entries stand in front of the first that `x` is before.
+// The place of the first entry that `x` is before, or the place behind them all.
 fn place<T: Entry>(entries: &[T], x: &T) -> usize
-    ensures value { λ r. ⌜ r ≡ placeOf before (now (x .entry)) (now (entries .entry)) ⌝ }
-    ensures within { λ r. ⌜ r ≤ length (now (entries .entry)) ⌝ }
+    ensures { λ r. ⌜ Place before (now (x .entry)) (now (entries .entry)) r ⌝ }
 {
     for (i, e) in entries.iter().enumerate() {
         if x.is_before(e) {
@@ -36,6 +35,26 @@ fn push_front<T: Copy>(places: &mut [T], x: T)
     }
 }
 
+// Puts `x` at its place `at`; the entries from there on move one place on.
+fn put<T: Entry>(places: &mut [T], len: usize, at: usize, x: T)
+    requires room { ⌜ len < length (now places) ⌝ }
+    requires place { ⌜ Place before x (take len (now places)) at ⌝ }
+    ensures { λ _. ⌜ Put key before x len at (now (places .entry)) (now (places .exit)) ⌝ }
+{
+    push_front(&mut places[at..len + 1], x);
+}
+
+// Brings the first entry behind the last, whence the others move up one place.
+fn shift<T: Entry>(places: &mut [T], len: usize) -> T
+    requires some { ⌜ 0 < len ⌝ }
+    requires within { ⌜ len ≤ length (now places) ⌝ }
+    ensures { λ r. ⌜ Taken before r len (now (places .entry)) (now (places .exit)) ⌝ }
+{
+    let first = places[0];
+    places[0..len].rotate_left(1);
+    first
+}
+
 // Puts `x` in front of the first entry that it is before, behind those with its own key, and answers the place. Of n
 // entries each is compared at most once and moved at most once.
 pub fn insert<T: Entry>(places: &mut [T], len: usize, x: T) -> Result<usize, Full>
@@ -45,18 +64,16 @@ pub fn insert<T: Entry>(places: &mut [T], len: usize, x: T) -> Result<usize, Ful
         return Err(Full);
     }
     let at = place(&places[0..len], &x);
-    push_front(&mut places[at..len + 1], x);
+    put(places, len, at, x);
     Ok(at)
 }
 
-// Takes the first entry. It is left in the place behind the last, which is spare from then on.
+// Takes the first entry. It is left in the place that is spare from then on, behind the others.
 pub fn take_first<T: Entry>(places: &mut [T], len: usize) -> Option<T>
     ensures { λ r. ⌜ Taking before len (now (places .entry)) (now (places .exit)) r ⌝ }
 {
     if len == 0 || places.len() < len {
         return None;
     }
-    let first = places[0];
-    places[0..len].rotate_left(1);
-    Some(first)
+    Some(shift(places, len))
 }

@@ -28,6 +28,9 @@ impl Stamp {
     pub fn is_before(self, other: Stamp) -> bool
         ensures { λ r. ⌜ r ≡ stampBefore self other ⌝ }
     {
-        self < other
+        if self.pair != other.pair {
+            return self.pair.is_before(other.pair);
+        }
+        self.port < other.port
     }
 }

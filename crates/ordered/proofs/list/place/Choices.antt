@@ -1,8 +1,8 @@
-use Prim.Native.Nat.{_+_}
+use Prim.Native.Nat.{ℕ, _<_}
 use mathlib.Core.Path.{_≡_}
-use lib.ListN.{drop}
-use Rattle.ordered.specs.Orders.{placeOf}
+use mathlib.Core.Bool.{false}
+use lib.ListN.{getD}
 use Rattle.ordered.proofs.list.place.Given as given
 
 abbrev pub Inv-loop-i : given.InvT-loop-i
-Inv-loop-i g l = l .i + placeOf (g .T·Entry .before) (l .x) (drop (l .i) (l .entries)) ≡ placeOf (g .T·Entry .before) (l .x) (l .entries)
+Inv-loop-i g l = (k : ℕ) (d : g .T .Denot) → k < l .i → g .T·Entry .before (l .x) (getD (l .entries) k d) ≡ false

@@ -6,7 +6,7 @@ use lib.ListN.{length, take, drop}
 use Rattle.ordered.specs.Lists.{Taken}
 use Rattle.ordered.proofs.Changes.{taken-out}
 use Rattle.ordered.proofs.Moves.{turned-take, turned-drop}
-use Rattle.ordered.proofs.list.take_first.Needs as need
+use Rattle.ordered.proofs.list.shift.Needs as need
 
 pub returns : need.returns
 returns g c =
