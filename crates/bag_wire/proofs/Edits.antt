@@ -11,7 +11,7 @@ use Rattle.std.proofs.shelf.Parts.{between-is}
 use Rattle.records.specs.declared.notice.Record.{Record}
 use Rattle.wires.specs.Lines.{depthOf, Put, Looked, Taken, Brought}
 use Rattle.bag_wire.specs.declared.entry.Entry.{Entry}
-use Rattle.bag_wire.specs.Journals.{on, kept, linesIn, Sound, marked, Oldest}
+use Rattle.bag_wire.specs.Journals.{put, on, kept, linesIn, Sound, marked, Oldest}
 use Rattle.bag_wire.proofs.JournalLaws.{on-from, push-waits, push-put, sound-push, blank, first-looked, first-taken, sound-removed, marked-all, marked-brought, sound-marked}
 use Rattle.bag_wire.proofs.Places.{short}
 
@@ -23,10 +23,6 @@ mid-is xs n = let e : n - 0 ≡ n = omega arith in ap (λ k. take k xs) e
 abbrev pub Ok : List Entry → ℕ → Type 0
 Ok j n = (length j ≡ 448) × (n ≤ 448) × Sound (take n j)
 
--- the entry that a put writes
-abbrev pub fresh : ℕ → ℕ → Record → Entry
-fresh a b x = record { from = a; to = b; item = x; arrived = false }
-
 module _ (j : List Entry) (n : ℕ) (ok : Ok j n) where
   length-journal : length (take n j) ≡ n
   length-journal = length-take-le n j (omega (arith, ok .0, ok .1))
@@ -37,30 +33,33 @@ module _ (j : List Entry) (n : ℕ) (ok : Ok j n) where
 
   -- ---- a put, where the line has space
 
-  module _ (a b : ℕ) (x : Record) (space : length (linesIn (take n j) a b .held) < depthOf 8 a b) where
+  module _ (a b : ℕ) (x : Record) (e : Entry) (made : e ≡ put a b x) (space : length (linesIn (take n j) a b .held) < depthOf 8 a b) where
     space-kept : length (kept (take n j) a b) < depthOf 8 a b
     space-kept = omega (arith, length-line a b)
 
-    mine : on a b (fresh a b x) ≡ true
-    mine = on-from (fresh a b x) a b refl refl
+    mine : on a b e ≡ true
+    mine = ap (on a b) made ∙ on-from (put a b x) a b refl refl
 
-    pushed-sound : Sound (take n j ++ fresh a b x ∷ [])
-    pushed-sound = sound-push (take n j) (fresh a b x) a b mine refl space-kept (ok .2)
+    late : e .arrived ≡ false
+    late = ap (λ y. y .arrived) made
+
+    pushed-sound : Sound (take n j ++ e ∷ [])
+    pushed-sound = sound-push (take n j) e a b mine late space-kept (ok .2)
 
     pub put-within : n < 448
-    put-within = omega (arith, short (take n j ++ fresh a b x ∷ []) pushed-sound, length-push (take n j) (fresh a b x), length-journal)
+    put-within = omega (arith, short (take n j ++ e ∷ []) pushed-sound, length-push (take n j) e, length-journal)
 
-    put-is : take (n + 1) (set j n (fresh a b x)) ≡ take n j ++ fresh a b x ∷ []
-    put-is = take-more-set j n (fresh a b x) (omega (arith, put-within, ok .0))
+    put-is : take (n + 1) (set j n e) ≡ take n j ++ e ∷ []
+    put-is = take-more-set j n e (omega (arith, put-within, ok .0))
 
-    pub put-ok : Ok (set j n (fresh a b x)) (n + 1)
-    put-ok = (length-set j n (fresh a b x) ∙ ok .0, omega (arith, put-within), subst Sound (sym put-is) pushed-sound)
+    pub put-ok : Ok (set j n e) (n + 1)
+    put-ok = (length-set j n e ∙ ok .0, omega (arith, put-within), subst Sound (sym put-is) pushed-sound)
 
-    pub put-done : Put 8 (linesIn (take n j)) (linesIn (take (n + 1) (set j n (fresh a b x)))) a b x
-    put-done = subst (λ es. Put 8 (linesIn (take n j)) (linesIn es) a b x) (sym put-is) (push-put (take n j) (fresh a b x) a b mine refl space-kept)
+    pub put-done : Put 8 (linesIn (take n j)) (linesIn (take (n + 1) (set j n e))) a b x
+    put-done = subst (λ es. Put 8 (linesIn (take n j)) (linesIn es) a b x) (sym put-is) (subst (Put 8 (linesIn (take n j)) (linesIn (take n j ++ e ∷ [])) a b) (ap (λ y. y .item) made) (push-put (take n j) e a b mine late space-kept))
 
-    pub put-waits : linesIn (take (n + 1) (set j n (fresh a b x))) a b .arrived ≡ linesIn (take n j) a b .arrived
-    put-waits = subst (λ es. linesIn es a b .arrived ≡ linesIn (take n j) a b .arrived) (sym put-is) (push-waits (take n j) (fresh a b x) a b mine refl space-kept)
+    pub put-waits : linesIn (take (n + 1) (set j n e)) a b .arrived ≡ linesIn (take n j) a b .arrived
+    put-waits = subst (λ es. linesIn es a b .arrived ≡ linesIn (take n j) a b .arrived) (sym put-is) (push-waits (take n j) e a b mine late space-kept)
 
   -- ---- a look and a take, where the line's oldest entry is at i and has arrived
 

@@ -6,8 +6,13 @@ use Prim.Native.Nat.{ℕ, _<_, _≤_}
 use lib.Dec.{eqb}
 use lib.ListN.{length, getD}
 use Rattle.std.specs.shelf.Lists.{kept-by, leading}
+use Rattle.records.specs.declared.notice.Record.{Record}
 use Rattle.wires.specs.Lines.{Line, Lines, depthOf}
 use Rattle.bag_wire.specs.declared.entry.Entry.{Entry}
+
+-- the entry that puts x on the line from p to q: it has not arrived
+abbrev pub put : ℕ → ℕ → Record → Entry
+put p q x = record { from = p; to = q; item = x; arrived = false }
 
 -- is the entry on the line from p to q
 abbrev pub on : ℕ → ℕ → Entry → Bool

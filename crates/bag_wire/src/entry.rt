@@ -1,5 +1,5 @@
 // One record in the journal, with the line that it is on.
-ghost use Rattle.bag_wire.specs.Journals.{on};
+ghost use Rattle.bag_wire.specs.Journals.{on, put};
 ghost use mathlib.Core.Path.{_≡_};
 use records::notice::Record;
 
@@ -12,6 +12,18 @@ pub struct Entry {
 }
 
 impl Entry {
+    // A record as it is put: it has not arrived.
+    pub fn fresh(from: u8, to: u8, item: Record) -> Entry
+        ensures { λ r. ⌜ r ≡ put from to item ⌝ }
+    {
+        Entry {
+            from,
+            to,
+            item,
+            arrived: false,
+        }
+    }
+
     // Whether it is on the line.
     pub fn is_on(&self, from: u8, to: u8) -> bool
         ensures { λ r. ⌜ r ≡ on from to (now (self .entry)) ⌝ }

@@ -8,6 +8,7 @@ use lib.ListN.{length, take, drop, getD, set}
 use Rattle.std.proofs.shelf.Lists.{length-take, length-drop, length-append, length-set, length-push, getD-take, getD-drop, getD-append-left, getD-append-right, getD-set-same, getD-set-other, getD-push, getD-default, same-lists}
 use Rattle.std.proofs.shelf.Tests.{cases-lt, cases-eq}
 use Rattle.records.specs.declared.notice.Record.{Record}
+use Rattle.records.specs.declared.notice.Record.the-variants.{Empty}
 use Rattle.row_wire.specs.declared.ring.Ring.{Ring}
 use Rattle.row_wire.specs.Rings.{ringed, held}
 
@@ -66,3 +67,6 @@ held-fits r = omega (arith, length-held r, r .ok .2)
 
 pub held-pop : (r : Ring) (d : Record) → 0 < r .len → held r ≡ getD (r .slots) (r .head) d ∷ ringed (r .slots) ((r .head + 1) % 16) (r .len - 1)
 held-pop r d h = ringed-pop (r .slots) (r .head) (r .len) d (r .ok .0) (r .ok .1) (r .ok .2) h
+
+pub held-skip : (r : Ring) → 0 < r .len → ringed (r .slots) ((r .head + 1) % 16) (r .len - 1) ≡ drop 1 (held r)
+held-skip r h = sym (ap (drop 1) (held-pop r (Empty (record { pair = record { clock = 0; step = 0 }; port = 0 })) h))

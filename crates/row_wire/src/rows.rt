@@ -65,10 +65,8 @@ pub impl Wire for RowWire as RowLines {
         ensures does { λ r. ⌜ TakeAnswers (rowLines (now (self .entry))) (rowLines (now (self .exit))) from to r ⌝ }
         ensures all { λ _. ⌜ AllArrived (rowLines (now (self .exit))) ⌝ }
     {
-        match place(from, to) {
-            Some(k) => self.rings[k].pop(),
-            None => None,
-        }
+        let k = place(from, to)?;
+        self.rings[k].pop()
     }
 
     fn bring(&mut self, from: u8, to: u8)

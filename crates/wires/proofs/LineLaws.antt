@@ -10,7 +10,6 @@ use lib.ListN.{length}
 use Rattle.std.specs.declared.result.Result.{Result}
 use Rattle.std.specs.declared.result.Result.the-variants.{Ok, Err}
 use Rattle.std.proofs.shelf.Tests.{cases-eq, cases-bool, cond-true, cond-false, and-parts, ltb-true, eqb-false, not-true}
-use Rattle.std.proofs.shelf.Ways.{tells}
 use Rattle.records.specs.declared.fault.NetFault.{NetFault}
 use Rattle.records.specs.declared.notice.Record.{Record}
 use Rattle.wires.specs.Lines.{Line, Lines, isLine, depthOf, Same, SameBut, Put, PutAnswers}
@@ -21,10 +20,6 @@ line-ports p q e =
     let a = and-parts (ltb p 8) (ltb q 8 && not (eqb p q)) e in
     let b = and-parts (ltb q 8) (not (eqb p q)) (a .1) in
     (ltb-true p 8 (a .0), ltb-true q 8 (b .0), eqb-false p q (not-true (eqb p q) (b .1)))
-
--- the depth of a line
-pub depth-line : (d p q : ℕ) → p < 8 → q < 8 → (p ≡ q → ⊥) → depthOf d p q ≡ d
-depth-line d p q h k ne = grind (arith, tells)
 
 -- a `put` on a line with space was done
 pub put-since-space : {X : Type 0} (d : ℕ) (old new : Lines) (a b : ℕ) (x : Record) (r : Result X NetFault) → PutAnswers d old new a b x r → length (old a b .held) < depthOf d a b → Put d old new a b x

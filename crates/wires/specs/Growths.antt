@@ -31,14 +31,22 @@ single a b x p q = cond (eqb p a && eqb q b) (x ∷ []) []
 abbrev pub toEach : ℕ → ℕ → Record → Extra
 toEach a mask x p q = cond (eqb p a && named mask q) (x ∷ []) []
 
--- x was sent from a to each port that the mask names, since all these lines had space
+-- the line from a to each port that the mask names holds fewer than its depth
+abbrev pub Space : ℕ → Lines → ℕ → ℕ → Type 0
+Space depth lines a mask = (q : ℕ) → named mask q ≡ true → length (lines a q .held) < depthOf depth a q
+
+-- the line from a to one of the ports that the mask names is full
+abbrev pub NoSpace : ℕ → Lines → ℕ → ℕ → Type 0
+NoSpace depth lines a mask = (q : ℕ) × (named mask q ≡ true) × (depthOf depth a q ≤ length (lines a q .held))
+
+-- x was put on the line from a to each port that the mask names, and all of them had space
 pub record Sent (depth : ℕ) (old new : Lines) (a mask : ℕ) (x : Record) : Type 0 where
-  pub space : (q : ℕ) → named mask q ≡ true → length (old a q .held) < depthOf depth a q
+  pub space : Space depth old a mask
   pub lines : Grown old new (toEach a mask x)
 
--- the line from a to one of the ports that the mask names is full, and the wire, of whatever kind, did not change
+-- one of them was full, and the wire, of whatever kind, did not change
 pub record Unsent {W : Type 0} (line : W → Lines) (depth : ℕ) (old new : W) (a mask : ℕ) : Type 0 where
-  pub full : (q : ℕ) × (named mask q ≡ true) × (depthOf depth a q ≤ length (line old a q .held))
+  pub full : NoSpace depth (line old) a mask
   pub same : new ≡ old
 
 -- what `send` answers: done, or refused with 15

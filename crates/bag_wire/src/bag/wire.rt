@@ -1,7 +1,7 @@
 // What a bag wire does.
 ghost use Prim.Native.Nat.{ℕ};
 ghost use Rattle.bag_wire.specs.Bags.{bagLines};
-ghost use Rattle.wires.specs.Lines.{PutAnswers, Brought, Emptied};
+ghost use Rattle.wires.specs.Lines.{depthOf, PutAnswers, Brought, Emptied};
 ghost use lib.ListN.{length};
 ghost use mathlib.Core.Path.{_≡_};
 use crate::bag::BagWire;
@@ -15,8 +15,16 @@ use records::stamp::Pair;
 use records::stamp::Stamp;
 use wires::wire::Wire;
 
-// How many records each line can hold.
-const DEPTH: usize = 8;
+// How many records the line can hold.
+fn depth(from: u8, to: u8) -> usize
+    ensures { λ r. ⌜ r ≡ depthOf 8 from to ⌝ }
+{
+    if from < 8 && to < 8 && from != to {
+        8
+    } else {
+        0
+    }
+}
 
 impl BagWire {
     pub fn new() -> BagWire
@@ -24,12 +32,7 @@ impl BagWire {
     {
         let pair = Pair { clock: 0, step: 0 };
         // what a place holds that was never used
-        let blank = Entry {
-            from: 0,
-            to: 0,
-            item: Record::Empty(Stamp { pair, port: 0 }),
-            arrived: false,
-        };
+        let blank = Entry::fresh(0, 0, Record::Empty(Stamp { pair, port: 0 }));
         BagWire {
             entries: [blank; 448],
             len: 0,
@@ -50,12 +53,7 @@ pub impl Wire for BagWire as BagLines {
         if self.free(from, to) == 0 {
             return Err(NetFault::LineFull);
         }
-        self.entries[self.len] = Entry {
-            from,
-            to,
-            item: record,
-            arrived: false,
-        };
+        self.entries[self.len] = Entry::fresh(from, to, record);
         self.len += 1;
         Ok(())
     }
@@ -82,12 +80,7 @@ pub impl Wire for BagWire as BagLines {
     }
 
     fn free(&self, from: u8, to: u8) -> usize {
-        let held = count(&self.entries[0..self.len], from, to);
-        if from < 8 && to < 8 && from != to {
-            DEPTH - held
-        } else {
-            0
-        }
+        depth(from, to) - count(&self.entries[0..self.len], from, to)
     }
 
     fn empty(&mut self) {
