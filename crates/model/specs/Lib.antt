@@ -1,0 +1,14 @@
+pub mod Stamping
+pub mod Lists
+pub mod Views
+pub mod Holding
+pub mod Batches
+pub mod Calls
+pub mod Refusals
+pub mod Steps
+pub mod Histories
+pub mod Law
+pub mod Queues
+pub mod Edges
+pub mod Runs
+pub mod Answers
