@@ -23,7 +23,7 @@ use Rattle.model.specs.Views.{PortView, View, sends, outside}
 use Rattle.model.specs.Batches.{copiesOn, copiesOf}
 use Rattle.model.specs.Calls.{HandIn, Decide, Call, hand-in, decide, clear, bring, fetch, release, decision}
 use Rattle.model.specs.Refusals.{handInFault, decideFault, clearFault, bringFault, fetchFault, releaseFault, faultOf, oldest, oldestOf, isNone, clearanceOn, clearanceStamp}
-use Rattle.model.specs.Steps.{HandsIn, Decides, Clears, Brings, Fetches, Releases, afterHandIn, afterDecide, afterClear, afterFetch, afterRelease, turned, isAbout}
+use Rattle.model.specs.Steps.{HandsIn, Decides, Clears, Brings, Fetches, Releases, afterHandIn, afterDecide, afterClear, afterFetch, afterRelease, turned, shownAfter}
 use Rattle.model.specs.Histories.{Told, handed, decided, cleared, brought, fetched, released, refused, Step}
 use Rattle.model.specs.Answers.{callOf, Alike, OneAnswer}
 use Rattle.model.proofs.Lists.{cond-ap}
@@ -134,7 +134,7 @@ module _ (depth : ℕ) (rule : Rule) (v : View) where
     table = v .table;
     port = withPort v port (afterRelease n);
     line = v .line;
-    shown = λ p home berth. cond (eqb p port && isAbout home berth (n .notice)) (turned rule p (n .notice) (v .shown p home berth) .list) (v .shown p home berth);
+    shown = shownAfter rule port (n .notice) v;
   }
 
   pub can-release : (port : ℕ) (n : Decided) (others : List Decided) → releaseFault v port ≡ None → v .port port .waiting ≡ n ∷ others → Releases rule v port n (turned rule port (n .notice) (v .shown port (n .notice .home) (n .notice .berth)) .outcome) (let-go port n)

@@ -47,4 +47,6 @@ pub record Edges : Type 0 where
   -- on the queue board, of 7 and then 9, 7 leaves
   pub queue : queueTurn (7 ∷ 9 ∷ []) Leave 7 ≡ record { list = 9 ∷ []; outcome = Gone }
   -- one dispatcher's readings 50, then 40
-  pub clocks : (o : PortView) (x y : HandIn) → o .clock (x .dispatcher) ≡ 0 → y .dispatcher ≡ x .dispatcher → x .reading ≡ 50 → y .reading ≡ 40 → (handedOf o x .clock ≡ 50) × (handedOf (afterHandIn x o) y .clock ≡ 50)
+  pub clocks : (o : PortView) (x y : HandIn) → o .clock (x .dispatcher) ≡ 0 → y .dispatcher ≡ x .dispatcher
+      → x .reading ≡ 50 → y .reading ≡ 40
+      → (handedOf o x .clock ≡ 50) × (handedOf (afterHandIn x o) y .clock ≡ 50)

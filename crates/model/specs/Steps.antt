@@ -120,6 +120,12 @@ turned rule port n old = cond (inRange port n) (rule old (n .action) (n .vessel)
 abbrev pub isAbout : ℕ → ℕ → Notice → Bool
 isAbout home berth n = eqb (n .home) home && eqb (n .berth) berth
 
+-- what the boards show when the notice is applied at the port: only the list of its berth there changes
+abbrev pub shownAfter : Rule → ℕ → Notice → View → ℕ → ℕ → ℕ → Vessels
+shownAfter rule port n v p home berth =
+    let old : Vessels = v .shown p home berth in
+    cond (eqb p port && isAbout home berth n) (turned rule p n old .list) old
+
 -- WHAT A CALL MAKES OF A NET
 
 -- the port p became this; no other port changed
@@ -178,7 +184,7 @@ pub record Releases (rule : Rule) (v : View) (port : ℕ) (n : Decided) (o : Out
   pub table : w .table ≡ v .table
   pub ports : OnlyPort v w port (afterRelease n)
   pub lines : Same (v .line) (w .line)
-  pub boards : (p home berth : ℕ) → w .shown p home berth ≡ cond (eqb p port && isAbout home berth (n .notice)) (turned rule p (n .notice) (v .shown p home berth) .list) (v .shown p home berth)
+  pub boards : (p home berth : ℕ) → w .shown p home berth ≡ shownAfter rule port (n .notice) v p home berth
 
 -- the call met this fault, and nothing changed
 pub record Refuses (depth : ℕ) (v : View) (c : Call) (f : NetFault) (w : View) : Type 0 where
