@@ -8,11 +8,13 @@ use lib.ListN.{length, getD, set, take, drop}
 use borrow.Rule.Slice.PartMut.{putMid, postOf, midOf}
 use Rattle.std.proofs.shelf.Lists.{append-assoc, length-map, length-append, length-drop, length-take-le, length-set, length-push, getD-take, take-take, take-at, take-more-set, drop-drop}
 use Rattle.std.proofs.shelf.Parts.{between-is}
+use Rattle.std.specs.declared.option.Option.{Option}
+use Rattle.std.specs.declared.option.Option.the-variants.{Some, None}
 use Rattle.records.specs.declared.notice.Record.{Record}
-use Rattle.wires.specs.Lines.{depthOf, Put, Looked, Taken, Brought}
+use Rattle.wires.specs.Lines.{depthOf, Put, Looked, LookAnswers, Taken, Brought}
 use Rattle.bag_wire.specs.declared.entry.Entry.{Entry}
-use Rattle.bag_wire.specs.Journals.{put, on, kept, linesIn, Sound, marked, Oldest}
-use Rattle.bag_wire.proofs.JournalLaws.{on-from, push-waits, push-put, sound-push, blank, first-looked, first-taken, sound-removed, marked-all, marked-brought, sound-marked}
+use Rattle.bag_wire.specs.Journals.{put, on, kept, linesIn, Sound, shown, marked, First}
+use Rattle.bag_wire.proofs.JournalLaws.{on-from, push-waits, push-put, sound-push, shown-some, shown-none, first-late, first-looked, first-taken, sound-removed, marked-all, marked-brought, sound-marked}
 use Rattle.bag_wire.proofs.Places.{short}
 
 -- `&s[0..n]`
@@ -61,20 +63,26 @@ module _ (j : List Entry) (n : ℕ) (ok : Ok j n) where
     pub put-waits : linesIn (take (n + 1) (set j n e)) a b .arrived ≡ linesIn (take n j) a b .arrived
     put-waits = subst (λ es. linesIn es a b .arrived ≡ linesIn (take n j) a b .arrived) (sym put-is) (push-waits (take n j) e a b mine late space-kept)
 
-  -- ---- a look and a take, where the line's oldest entry is at i and has arrived
+  -- ---- a look and a take, where the line's oldest entry is at i
 
-  module _ (p q i : ℕ) (found : Oldest (midOf 0 (n - 0) j) p q i) where
-    at : Oldest (take n j) p q i
-    at = subst (λ es. Oldest es p q i) (mid-is j n) found
+  module _ (p q i : ℕ) (found : First (midOf 0 (n - 0) j) p q i) (d : Entry) where
+    at : First (take n j) p q i
+    at = subst (λ es. First es p q i) (mid-is j n) found
 
-    pub oldest-within : i < n
-    oldest-within = omega (arith, at .within, length-journal)
+    pub first-within : i < n
+    first-within = omega (arith, at .within, length-journal)
 
-    same : (d : Entry) → getD (take n j) i d ≡ getD j i d
-    same d = getD-take n j i d oldest-within
+    same : getD (take n j) i d ≡ getD j i d
+    same = getD-take n j i d first-within
 
-    pub look-done : (d : Entry) → Looked (linesIn (take n j) p q) (getD j i d .item)
-    look-done d = subst (λ e. Looked (linesIn (take n j) p q) (e .item)) (same d) (first-looked (take n j) p q i (at .within) (at .before) d (at .here d) (at .there d))
+    pub look-late : None ≡ shown (getD j i d) → linesIn (take n j) p q .arrived ≡ 0
+    look-late e = first-late (take n j) p q i at d (ap (λ e. e .arrived) same ∙ shown-none (getD j i d) e)
+
+    pub look-done : (r : Option Record) → r ≡ shown (getD j i d) → LookAnswers (linesIn (take n j) p q) r
+    look-done None e = look-late e
+    look-done (Some x) e =
+        let s = shown-some (getD j i d) x e in
+        subst (Looked (linesIn (take n j) p q)) (ap (λ e. e .item) same ∙ s .1) (first-looked (take n j) p q i at d (ap (λ e. e .arrived) same ∙ s .0))
 
     module _ (ys : List Entry) (after : ys ≡ drop 1 (midOf i (n - i) j) ++ take 1 (midOf i (n - i) j)) where
       rest-is : drop 1 (midOf i (n - i) j) ≡ drop (i + 1) (take n j)
@@ -86,7 +94,7 @@ module _ (j : List Entry) (n : ℕ) (ok : Ok j n) where
           let f = take i j in
           let m = midOf i (n - i) j in
           let r = postOf i (n - i) j in
-          let h = oldest-within in
+          let h = first-within in
           let lf = length-take-le i j (omega (arith, ok .0, ok .1)) in
           let lr : length (drop 1 m) ≡ n - i - 1 = ap length rest-is ∙ length-drop (i + 1) (take n j) ∙ omega (arith, length-journal) in
           ap (λ zs. take (n - 1) (f ++ (zs ++ r))) after ∙
@@ -100,7 +108,7 @@ module _ (j : List Entry) (n : ℕ) (ok : Ok j n) where
       rotated-long =
           let m = midOf i (n - i) j in
           let r = postOf i (n - i) j in
-          let h = oldest-within in
+          let h = first-within in
           let lm = length-take-le (n - i) (drop i j) (omega (arith, length-drop i j, ok .0, ok .1)) in
           let lf = length-take-le i j (omega (arith, ok .0, ok .1)) in
           let ly = ap length after ∙ length-append (drop 1 m) (take 1 m) in
@@ -109,13 +117,14 @@ module _ (j : List Entry) (n : ℕ) (ok : Ok j n) where
           omega (arith, ok .0, ok .1, lf, length-append ys r, ly, length-drop 1 m, l2, lm, length-drop (n - i) (drop i j), length-drop i j)
 
       pub take-ok : Ok (putMid i (n - i) j ys) (n - 1)
-      take-ok = (rotated-long, omega (arith, ok .1), subst Sound (sym rotated) (sound-removed (take n j) p q i (at .within) (at .before) (getD j i blank) (at .here (getD j i blank)) (ok .2)))
+      take-ok = (rotated-long, omega (arith, ok .1), subst Sound (sym rotated) (sound-removed (take n j) p q i at d (ok .2)))
 
-      pub take-done : (d : Entry) → Taken (linesIn (take n j)) (linesIn (take (n - 1) (putMid i (n - i) j ys))) p q (getD j i d .item)
-      take-done d =
-          subst (λ es. Taken (linesIn (take n j)) (linesIn es) p q (getD j i d .item)) (sym rotated)
-          (subst (λ e. Taken (linesIn (take n j)) (linesIn (take i (take n j) ++ drop (i + 1) (take n j))) p q (e .item)) (same d)
-          (first-taken (take n j) p q i (at .within) (at .before) d (at .here d) (at .there d)))
+      pub take-done : (x : Record) → Some x ≡ shown (getD j i d) → Taken (linesIn (take n j)) (linesIn (take (n - 1) (putMid i (n - i) j ys))) p q x
+      take-done x e =
+          let s = shown-some (getD j i d) x e in
+          subst (λ es. Taken (linesIn (take n j)) (linesIn es) p q x) (sym rotated)
+          (subst (Taken (linesIn (take n j)) (linesIn (take i (take n j) ++ drop (i + 1) (take n j))) p q) (ap (λ e. e .item) same ∙ s .1)
+          (first-taken (take n j) p q i at d (ap (λ e. e .arrived) same ∙ s .0)))
 
   -- ---- a bring
 

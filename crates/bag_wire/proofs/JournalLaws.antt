@@ -12,14 +12,16 @@ use Rattle.std.proofs.shelf.Lists.{append-nil, length-map, length-append, lengt
 use Rattle.std.proofs.shelf.Elements.{kept-by-append}
 use Rattle.std.proofs.shelf.Filters.{length-kept-by-more}
 use Rattle.std.proofs.shelf.Sums.{leading-le-length}
-use Rattle.std.proofs.shelf.Tests.{cases-bool, cond-true, cond-false, and-parts, and-from, eqb-true, eq-eqb}
+use Rattle.std.proofs.shelf.Tests.{cases-bool, cond-true, cond-false, cond-both, and-parts, and-from, eqb-true, eq-eqb}
+use Rattle.std.specs.declared.option.Option.{Option}
+use Rattle.std.specs.declared.option.Option.the-variants.{Some, None}
 use Rattle.records.specs.declared.notice.Record.{Record}
 use Rattle.records.specs.declared.notice.Record.the-variants.{Notice}
 use Rattle.records.specs.declared.notice.Action.the-variants.{Take}
 use Rattle.wires.specs.Lines.{Line, depthOf, SameBut, Put, Looked, Taken, Brought}
 use Rattle.wires.proofs.LineLaws.{by-line}
 use Rattle.bag_wire.specs.declared.entry.Entry.{Entry}
-use Rattle.bag_wire.specs.Journals.{on, kept, lineOf, linesIn, Sound, marked, Oldest}
+use Rattle.bag_wire.specs.Journals.{on, kept, lineOf, linesIn, Sound, shown, marked, First}
 
 -- an entry of zeros, for reads at a place that may be past the end
 abbrev pub blank : Entry
@@ -97,23 +99,22 @@ kept-by-none f [] h = refl
 kept-by-none f (x ∷ xs) h =
     cond-false (f x) (x ∷ kept-by f xs) (kept-by f xs) (h 0 x (omega arith)) ∙ kept-by-none f xs (λ k d l. h (suc k) d (omega arith))
 
--- none arrived where none is on the line
-pub none-on : (es : List Entry) (p q : ℕ) → ((k : ℕ) (d : Entry) → k < length es → on p q (getD es k d) ≡ false) → linesIn es p q .arrived ≡ 0
-none-on es p q h = ap (λ ks. lineOf ks .arrived) (kept-by-none (on p q) es h)
+pub none-on : (es : List Entry) (p q : ℕ) → ((k : ℕ) (d : Entry) → k < length es → on p q (getD es k d) ≡ false) → kept es p q ≡ []
+none-on es p q h = kept-by-none (on p q) es h
 
 -- the first entry of the line from p to q is at i
-module _ (es : List Entry) (p q i : ℕ) (within : i < length es) (before : (k : ℕ) (d : Entry) → k < i → on p q (getD es k d) ≡ false) (d : Entry) (here : on p q (getD es i d) ≡ true) where
+module _ (es : List Entry) (p q i : ℕ) (at : First es p q i) (d : Entry) where
   front-none : kept (take i es) p q ≡ []
   front-none =
-      let n = length-take-le i es (omega arith) in
-      kept-by-none (on p q) (take i es) (λ k d h. let l : k < i = omega arith in ap (on p q) (getD-take i es k d l) ∙ before k d l)
+      let n = length-take-le i es (omega (arith, at .within)) in
+      kept-by-none (on p q) (take i es) (λ k d h. let l : k < i = omega arith in ap (on p q) (getD-take i es k d l) ∙ at .before k d l)
 
   whole : es ≡ take i es ++ getD es i d ∷ drop (i + 1) es
-  whole = sym (take-append-drop i es) ∙ ap (λ xs. take i es ++ xs) (drop-more es i d within)
+  whole = sym (take-append-drop i es) ∙ ap (λ xs. take i es ++ xs) (drop-more es i d (at .within))
 
   kept-first : kept es p q ≡ getD es i d ∷ kept (drop (i + 1) es) p q
   kept-first =
-      ap (λ xs. kept xs p q) whole ∙ kept-with (take i es) (drop (i + 1) es) (getD es i d) p q here ∙ ap (λ xs. xs ++ getD es i d ∷ kept (drop (i + 1) es) p q) front-none
+      ap (λ xs. kept xs p q) whole ∙ kept-with (take i es) (drop (i + 1) es) (getD es i d) p q (at .here d) ∙ ap (λ xs. xs ++ getD es i d ∷ kept (drop (i + 1) es) p q) front-none
 
   kept-removed : kept (take i es ++ drop (i + 1) es) p q ≡ kept (drop (i + 1) es) p q
   kept-removed = kept-by-append (on p q) (take i es) (drop (i + 1) es) ∙ ap (λ xs. xs ++ kept (drop (i + 1) es) p q) front-none
@@ -136,7 +137,7 @@ module _ (es : List Entry) (p q i : ℕ) (within : i < length es) (before : (k :
     first-taken = record {
       held = held-is ∙ ap (λ ks. getD es i d .item ∷ lineOf ks .held) (sym kept-removed);
       arrived = omega (arith, arrived-is, ap (λ ks. lineOf ks .arrived) kept-removed);
-      others = λ a b ne. ap lineOf (sym (ap (λ xs. kept xs a b) whole ∙ kept-without (take i es) (drop (i + 1) es) (getD es i d) a b (on-apart (getD es i d) p q a b here ne)));
+      others = λ a b ne. ap lineOf (sym (ap (λ xs. kept xs a b) whole ∙ kept-without (take i es) (drop (i + 1) es) (getD es i d) a b (on-apart (getD es i d) p q a b (at .here d) ne)));
     }
 
   pub sound-removed : Sound es → Sound (take i es ++ drop (i + 1) es)
@@ -150,6 +151,22 @@ module _ (es : List Entry) (p q i : ℕ) (within : i < length es) (before : (k :
       (λ (t : on a b e ≡ true). omega (arith, s a b, w, m, ap length (kept-with f r e a b t) ∙ length-append (kept f a b) (e ∷ kept r a b)))
       (λ (n : on a b e ≡ false). omega (arith, s a b, w, ap length (kept-without f r e a b n)))
       (cases-bool (on a b e))
+
+-- what an entry shows
+pub shown-some : (e : Entry) (x : Record) → Some x ≡ shown e → (e .arrived ≡ true) × (e .item ≡ x)
+shown-some e x = cond-both (e .arrived) (Some (e .item)) None (λ o. Some x ≡ o → (e .arrived ≡ true) × (e .item ≡ x)) (λ t h. (t, is h)) (λ f h. absurd (never h))
+  where
+    is : Some x ≡ Some (e .item) → e .item ≡ x
+    is h = cc
+
+    never : _≡_ {A = Option Record} (Some x) None → ⊥
+    never h = let z : _≡_ {A = ℕ} 0 1 = cc in omega arith
+
+pub shown-none : (e : Entry) → None ≡ shown e → e .arrived ≡ false
+shown-none e = cond-both (e .arrived) (Some (e .item)) None (λ o. None ≡ o → e .arrived ≡ false) (λ t h. absurd (never h)) (λ f h. f)
+  where
+    never : _≡_ {A = Option Record} None (Some (e .item)) → ⊥
+    never h = let z : _≡_ {A = ℕ} 0 1 = cc in omega arith
 
 -- ---- a marking
 

@@ -6,6 +6,8 @@ use Prim.Native.Nat.{ℕ, _<_, _≤_}
 use lib.Dec.{eqb}
 use lib.ListN.{length, getD}
 use Rattle.std.specs.shelf.Lists.{kept-by, leading}
+use Rattle.std.specs.declared.option.Option.{Option}
+use Rattle.std.specs.declared.option.Option.the-variants.{Some, None}
 use Rattle.records.specs.declared.notice.Record.{Record}
 use Rattle.wires.specs.Lines.{Line, Lines, depthOf}
 use Rattle.bag_wire.specs.declared.entry.Entry.{Entry}
@@ -33,13 +35,16 @@ linesIn es p q = lineOf (kept es p q)
 abbrev pub Sound : List Entry → Type 0
 Sound es = (p q : ℕ) → length (kept es p q) ≤ depthOf 8 p q
 
+-- its record, if that has arrived
+abbrev pub shown : Entry → Option Record
+shown e = cond (e .arrived) (Some (e .item)) None
+
 -- the entry, marked if it is on the line
 abbrev pub marked : ℕ → ℕ → Entry → Entry
 marked p q e = cond (on p q e) (record { from = e .from; to = e .to; item = e .item; arrived = true }) e
 
--- the first entry of the line is at i, and has arrived
-pub record Oldest (es : List Entry) (p q i : ℕ) : Type 0 where
+-- the first entry of the line is at i
+pub record First (es : List Entry) (p q i : ℕ) : Type 0 where
   pub within : i < length es
   pub before : (k : ℕ) (d : Entry) → k < i → on p q (getD es k d) ≡ false
   pub here : (d : Entry) → on p q (getD es i d) ≡ true
-  pub there : (d : Entry) → getD es i d .arrived ≡ true

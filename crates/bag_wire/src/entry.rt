@@ -1,5 +1,5 @@
 // One record in the journal, with the line that it is on.
-ghost use Rattle.bag_wire.specs.Journals.{on, put};
+ghost use Rattle.bag_wire.specs.Journals.{on, put, shown};
 ghost use mathlib.Core.Path.{_≡_};
 use records::notice::Record;
 
@@ -29,5 +29,12 @@ impl Entry {
         ensures { λ r. ⌜ r ≡ on from to (now (self .entry)) ⌝ }
     {
         (self.from == from) & (self.to == to)
+    }
+
+    // Its record, if that has arrived.
+    pub fn shown(&self) -> Option<Record>
+        ensures { λ r. ⌜ r ≡ shown (now (self .entry)) ⌝ }
+    {
+        if self.arrived { Some(self.item) } else { None }
     }
 }

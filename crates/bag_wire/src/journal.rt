@@ -1,8 +1,9 @@
-// What is found and marked in a journal, oldest entry first.
-ghost use Rattle.bag_wire.specs.Journals.{kept, linesIn, marked, Oldest};
+// What is found, marked and moved in a journal, oldest entry first.
+ghost use Prim.Native.Nat.{_<_};
+ghost use Rattle.bag_wire.specs.Journals.{kept, marked, First};
 ghost use Rattle.std.specs.Options.{Cases as BySome};
-ghost use lib.ListN.{length};
-ghost use mathlib.Core.List.{map};
+ghost use lib.ListN.{length, take, drop};
+ghost use mathlib.Core.List.{[], _++_, map};
 ghost use mathlib.Core.Path.{_≡_};
 use crate::entry::Entry;
 
@@ -19,13 +20,13 @@ pub fn count(entries: &[Entry], from: u8, to: u8) -> usize
     n
 }
 
-// The place of the line's oldest entry, if that has arrived.
-pub fn oldest(entries: &[Entry], from: u8, to: u8) -> Option<usize>
-    ensures { λ r. ⌜ BySome r (linesIn (now (entries .entry)) from to .arrived ≡ 0) (Oldest (now (entries .entry)) from to) ⌝ }
+// The place of the line's oldest entry.
+pub fn first(entries: &[Entry], from: u8, to: u8) -> Option<usize>
+    ensures { λ r. ⌜ BySome r (kept (now (entries .entry)) from to ≡ []) (First (now (entries .entry)) from to) ⌝ }
 {
     for (i, e) in entries.iter().enumerate() {
         if e.is_on(from, to) {
-            return if e.arrived { Some(i) } else { None };
+            return Some(i);
         }
     }
     None
@@ -40,4 +41,12 @@ pub fn mark(entries: &mut [Entry], from: u8, to: u8)
             e.arrived = true;
         }
     }
+}
+
+// Moves the first entry behind the others, which keep their order.
+pub fn move_behind(entries: &mut [Entry])
+    requires { ⌜ 0 < length (now entries) ⌝ }
+    ensures { λ _. ⌜ now (entries .exit) ≡ drop 1 (now (entries .entry)) ++ take 1 (now (entries .entry)) ⌝ }
+{
+    entries.rotate_left(1);
 }

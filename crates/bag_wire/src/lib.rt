@@ -2,7 +2,7 @@
 // arrive.
 pub mod bag; // the wire
 mod entry; // one record in the journal
-mod journal; // what is found and marked in it
+mod journal; // what is found, marked and moved in it
 
 pub use bag::BagWire;
 pub use bag::wire::BagLines;

@@ -7,8 +7,9 @@ ghost use mathlib.Core.Path.{_≡_};
 use crate::bag::BagWire;
 use crate::entry::Entry;
 use crate::journal::count;
+use crate::journal::first;
 use crate::journal::mark;
-use crate::journal::oldest;
+use crate::journal::move_behind;
 use records::fault::NetFault;
 use records::notice::Record;
 use records::stamp::Pair;
@@ -59,15 +60,16 @@ pub impl Wire for BagWire as BagLines {
     }
 
     fn look(&self, from: u8, to: u8) -> Option<Record> {
-        let i = oldest(&self.entries[0..self.len], from, to)?;
-        Some(self.entries[i].item)
+        let i = first(&self.entries[0..self.len], from, to)?;
+        self.entries[i].shown()
     }
 
     fn take(&mut self, from: u8, to: u8) -> Option<Record> {
-        let i = oldest(&self.entries[0..self.len], from, to)?;
-        let record = self.entries[i].item;
+        let i = first(&self.entries[0..self.len], from, to)?;
+        let oldest = self.entries[i];
+        let record = oldest.shown()?;
         // the entry goes behind the last one, and the journal ends before it
-        self.entries[i..self.len].rotate_left(1);
+        move_behind(&mut self.entries[i..self.len]);
         self.len -= 1;
         Some(record)
     }
