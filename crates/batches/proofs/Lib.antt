@@ -1,0 +1,2 @@
+pub mod Stampings
+pub mod Walks
