@@ -36,5 +36,5 @@ module _ {X : Type 0} (xs : List X) (i : ℕ) (lt : i < length xs) (p : X → Bo
 pub no-cut : (cuts : List ℕ) (d n : ℕ) → length cuts ≡ 4 → 4 ≤ d → eqb n 0 ≡ leb n (getD cuts d 0)
 no-cut cuts d n len le = zero-leb n ∙ ap (leb n) (sym (getD-past cuts d 0 (omega arith)))
   where
-  zero-leb : (n : ℕ) → eqb n 0 ≡ leb n 0
-  zero-leb n = grind (arith, tells)
+    zero-leb : (n : ℕ) → eqb n 0 ≡ leb n 0
+    zero-leb n = grind (arith, tells)

@@ -31,15 +31,13 @@ loop-n-again c =
       | then-is-within·in-Some w ↦
           let here = kept-here ns i (c .loop-n-test .taken) (within cuts) no-handed (sym (c .is-within .ensures) ∙ w .if-is-within .taken) in
           let pair = w .in-Some .ensures tt in
-          let lt : c .loop-n .len < length (c .loop-n .notices) = omega arith in
-          (
+          let lt : c .loop-n .len < length (c .loop-n .notices) = omega arith in (
             omega (arith, w .len-is),
             ap length (w .notices-is) ∙ length-set (c .loop-n .notices) (c .loop-n .len) _ ∙ c .loop-n .inv .1,
             rw (w .last-is, w .notices-is, w .len-is) (going-more (getD ns i no-handed) (w .in-Some .pair) rest (subst (Going _ _ _ _ _ _) here g) lt (pair .0) (pair .1)),
           )
       | else-is-within w ↦
-          let here = kept-not ns i (c .loop-n-test .taken) (within cuts) no-handed (sym (c .is-within .ensures) ∙ w .if-is-within .left) in
-          (
+          let here = kept-not ns i (c .loop-n-test .taken) (within cuts) no-handed (sym (c .is-within .ensures) ∙ w .if-is-within .left) in (
             omega (arith, w .len-is),
             ap length (w .notices-is) ∙ c .loop-n .inv .1,
             rw (w .last-is, w .notices-is, w .len-is) (subst (Going _ _ _ _ _ _) here g),
