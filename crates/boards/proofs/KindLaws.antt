@@ -8,13 +8,15 @@ use native.Mathlib.Omega.{arith}
 use lib.Dec.{eqb, leb}
 use lib.ListN.{length}
 use Rattle.std.proofs.shelf.Lists.{length-push}
-use Rattle.std.proofs.shelf.Tests.{cases-bool, cond-true, cond-false, cond-both, le-leb, leb-true, leb-false, or-parts}
+use Rattle.std.proofs.shelf.Tests.{cases-bool, cond-true, cond-false, cond-both, le-leb, leb-true, leb-false, or-parts, or-from, ne-eqb, eqb-false}
 use Rattle.records.specs.declared.notice.Action.{Action}
 use Rattle.records.specs.declared.notice.Action.the-variants.{Take, Leave}
 use Rattle.boards.specs.declared.outcome.Outcome.{Outcome}
 use Rattle.boards.specs.declared.outcome.Outcome.the-variants.{Alongside, Gone, Clash, Waits}
 use Rattle.boards.specs.Rules.{Vessels, Turn, Rule, listed, once, without, Fair, Leaves, FirstStays, StaysOnce, ClashIsSame, StaysHeld}
 use Rattle.boards.specs.Kinds.{clash, berthed, left, takenFirst, takenLast, firstCome, queue, atMost}
+use Rattle.boards.specs.Shown.{Proper}
+use Rattle.boards.specs.Places.{alone}
 use Rattle.boards.proofs.ListLaws.{without-other, not-listed-without, once-without, without-listed, shorter, once-push, push-longer}
 
 -- the outcome is a clash exactly when the list is that one
@@ -116,3 +118,14 @@ queue-held l Leave v f _ = held-left 4 l v (f .0)
 -- the rules' own example: 7 then 9, and 7 leaves
 pub seven-leaves : queue (queue (queue [] Take 7 .list) Take 9 .list) Leave 7 ≡ record { list = 9 ∷ []; outcome = Gone }
 seven-leaves = refl
+
+-- ---- what is shown
+
+pub proper-none : (n : ℕ) → Proper (atMost n) []
+proper-none n = record { held = le-leb 0 n (omega arith); apart = refl; named = refl }
+
+pub proper-alone : (v : ℕ) → Proper (atMost 1) (alone v)
+proper-alone v = cond-both (eqb v 0) [] (v ∷ []) (Proper (atMost 1)) (λ _. proper-none 1) (λ some. record { held = refl; apart = refl; named = or-from (eqb 0 v) false (ne-eqb 0 v (λ e. eqb-false v 0 some (sym e))) refl })
+
+pub alone-short : (v : ℕ) → length (alone v) ≤ 1
+alone-short v = cond-both (eqb v 0) [] (v ∷ []) (λ l. length l ≤ 1) (λ _. omega arith) (λ _. omega arith)

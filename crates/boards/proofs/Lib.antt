@@ -1,3 +1,4 @@
+pub mod BerthLaws
 pub mod KindLaws
 pub mod ListLaws
 pub mod PlaceLaws

@@ -6,7 +6,8 @@ use mathlib.Core.Logic.{_⊎_, inl, inr, ⊎-elim}
 use Prim.Native.Nat.{ℕ, _+_, _<_, _≤_}
 use native.Mathlib.Omega.{arith}
 use lib.Dec.{eqb}
-use lib.ListN.{length}
+use lib.ListN.{length, getD, drop}
+use Rattle.std.proofs.shelf.Lists.{at-drop-more}
 use Rattle.std.proofs.shelf.Tests.{cases-bool, cases-eq, both-ways, eqb-true, eqb-false, eq-eqb, ne-eqb, cond-true, cond-false, cond-both, and-parts, and-from, or-cases, or-parts, or-from, or-left, or-right, not-true, not-from-true, not-from-false}
 use Rattle.boards.specs.Rules.{Vessels, listed, once, without}
 
@@ -68,3 +69,14 @@ once-push v (x ∷ xs) h free =
 pub push-longer : (v : ℕ) (xs : Vessels) → xs ++ v ∷ [] ≡ xs → ⊥
 push-longer v [] e = let z : _≡_ {A = ℕ} 1 0 = ap length e in omega arith
 push-longer v (x ∷ xs) e = let f : xs ++ v ∷ [] ≡ xs = cc in push-longer v xs f
+
+-- ---- a search, place by place
+
+listed-drop : (v : ℕ) (xs : Vessels) (i : ℕ) → i < length xs → listed v (drop i xs) ≡ (eqb v (getD xs i 0) || listed v (drop (i + 1) xs))
+listed-drop v xs i h = at-drop-more (listed v) xs i 0 h
+
+pub listed-here : (v : ℕ) (xs : Vessels) (i : ℕ) → i < length xs → getD xs i 0 ≡ v → listed v (drop i xs) ≡ true
+listed-here v xs i h e = listed-drop v xs i h ∙ or-left (eqb v (getD xs i 0)) (listed v (drop (i + 1) xs)) (eq-eqb v (getD xs i 0) (sym e))
+
+pub listed-later : (v : ℕ) (xs : Vessels) (i : ℕ) → i < length xs → (getD xs i 0 ≡ v → ⊥) → listed v (drop i xs) ≡ listed v (drop (i + 1) xs)
+listed-later v xs i h ne = listed-drop v xs i h ∙ ap (λ b. b || listed v (drop (i + 1) xs)) (ne-eqb v (getD xs i 0) (λ e. ne (sym e)))

@@ -7,6 +7,6 @@ mod place; // where a berth's list lies in an array of them
 pub mod queue; // up to three vessels wait behind the one alongside
 
 pub use board::Board;
-
+pub use first_come::FirstCome;
 pub use outcome::Outcome;
-
+pub use queue::Queue;
