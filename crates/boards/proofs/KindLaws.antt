@@ -1,20 +1,17 @@
 -- The laws of the two rules. Assumes nothing.
-use mathlib.Core.Path.{_≡_, refl, sym, ap, _∙_, subst}
-use mathlib.Core.Bool.{Bool, true, false, cond, not, _&&_, _||_}
-use mathlib.Core.List.{List, [], _∷_, _++_}
-use mathlib.Core.Logic.{_⊎_, inl, inr, ⊎-elim}
+use mathlib.Core.Path.{_≡_, refl, sym, ap}
+use mathlib.Core.Bool.{true, false, not, _||_}
+use mathlib.Core.List.{[], _∷_, _++_}
 use Prim.Native.Nat.{ℕ, _+_, _<_, _≤_}
 use native.Mathlib.Omega.{arith}
 use lib.Dec.{eqb, leb}
 use lib.ListN.{length}
 use Rattle.std.proofs.shelf.Lists.{length-push}
-use Rattle.std.proofs.shelf.Tests.{cases-bool, cond-true, cond-false, cond-both, le-leb, leb-true, leb-false, or-parts, or-from, ne-eqb, eqb-false}
-use Rattle.records.specs.declared.notice.Action.{Action}
+use Rattle.std.proofs.shelf.Tests.{cond-both, le-leb, leb-true, leb-false, or-parts, or-from, ne-eqb, eqb-false}
 use Rattle.records.specs.declared.notice.Action.the-variants.{Take, Leave}
-use Rattle.boards.specs.declared.outcome.Outcome.{Outcome}
 use Rattle.boards.specs.declared.outcome.Outcome.the-variants.{Alongside, Gone, Clash, Waits}
-use Rattle.boards.specs.Rules.{Vessels, Turn, Rule, listed, once, without, Fair, Leaves, FirstStays, StaysOnce, ClashIsSame, StaysHeld}
-use Rattle.boards.specs.Kinds.{clash, berthed, left, takenFirst, takenLast, firstCome, queue, atMost}
+use Rattle.boards.specs.Rules.{Vessels, Turn, listed, once, without, Leaves, FirstStays, StaysOnce, ClashIsSame, StaysHeld}
+use Rattle.boards.specs.Kinds.{clash, berthed, left, takenLast, firstCome, queue, atMost}
 use Rattle.boards.specs.Shown.{Proper}
 use Rattle.boards.specs.Places.{alone}
 use Rattle.boards.proofs.ListLaws.{without-other, not-listed-without, once-without, without-listed, shorter, once-push, push-longer}
@@ -114,10 +111,6 @@ pub queue-held : StaysHeld (atMost 4) queue
 queue-held [] Take v f _ = refl
 queue-held (x ∷ xs) Take v f _ = by-last (λ t. atMost 4 (t .list) ≡ true) x xs v (f .0) (λ _ few. le-leb (length (x ∷ xs ++ v ∷ [])) 4 (omega (arith, length-push (x ∷ xs) v)))
 queue-held l Leave v f _ = held-left 4 l v (f .0)
-
--- the rules' own example: 7 then 9, and 7 leaves
-pub seven-leaves : queue (queue (queue [] Take 7 .list) Take 9 .list) Leave 7 ≡ record { list = 9 ∷ []; outcome = Gone }
-seven-leaves = refl
 
 -- ---- what is shown
 

@@ -1,14 +1,14 @@
 -- Lists of vessels: who is listed, and who is left without one. Assumes nothing.
 use mathlib.Core.Path.{_≡_, refl, sym, ap, _∙_, subst}
-use mathlib.Core.Bool.{Bool, true, false, cond, not, _&&_, _||_}
-use mathlib.Core.List.{List, [], _∷_, _++_}
-use mathlib.Core.Logic.{_⊎_, inl, inr, ⊎-elim}
+use mathlib.Core.Bool.{true, false, not, _||_}
+use mathlib.Core.List.{[], _∷_, _++_}
+use mathlib.Core.Logic.{_⊎_, ⊎-elim}
 use Prim.Native.Nat.{ℕ, _+_, _<_, _≤_}
 use native.Mathlib.Omega.{arith}
 use lib.Dec.{eqb}
 use lib.ListN.{length, getD, drop}
 use Rattle.std.proofs.shelf.Lists.{at-drop-more}
-use Rattle.std.proofs.shelf.Tests.{cases-bool, cases-eq, both-ways, eqb-true, eqb-false, eq-eqb, ne-eqb, cond-true, cond-false, cond-both, and-parts, and-from, or-cases, or-parts, or-from, or-left, or-right, not-true, not-from-true, not-from-false}
+use Rattle.std.proofs.shelf.Tests.{cases-eq, both-ways, eqb-false, eq-eqb, ne-eqb, cond-true, cond-false, and-parts, and-from, or-parts, or-from, or-left, not-true, not-from-true, not-from-false}
 use Rattle.boards.specs.Rules.{Vessels, listed, once, without}
 
 -- one list more at the front of what is left

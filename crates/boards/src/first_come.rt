@@ -1,5 +1,5 @@
 // The first-come board: a berth has one vessel or none, and nobody waits.
-ghost use Prim.Native.Nat.{ℕ, _<_};
+ghost use Prim.Native.Nat.{_<_};
 ghost use Rattle.boards.specs.Kinds.{firstCome, atMost};
 ghost use Rattle.boards.specs.Places.{alone, shownBy};
 ghost use Rattle.boards.specs.Shown.{Emptied};

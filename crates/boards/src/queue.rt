@@ -1,5 +1,4 @@
 // The queue board: behind the vessel alongside up to three others wait, in the order in which they came.
-ghost use Prim.Native.Nat.{ℕ};
 ghost use Rattle.boards.specs.Berths.{vesselsOf};
 ghost use Rattle.boards.specs.Kinds.{queue, atMost};
 ghost use Rattle.boards.specs.Places.{shownBy};

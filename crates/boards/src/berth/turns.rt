@@ -1,5 +1,5 @@
 // What a berth can do.
-ghost use Prim.Native.Nat.{ℕ, _<_, _≤_};
+ghost use Prim.Native.Nat.{_<_, _≤_};
 ghost use Rattle.boards.specs.Berths.{vesselsOf};
 ghost use Rattle.boards.specs.Kinds.{queue, takenLast, left};
 ghost use Rattle.boards.specs.Rules.{listed, without};

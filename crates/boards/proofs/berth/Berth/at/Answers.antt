@@ -1,6 +1,5 @@
-use mathlib.Core.Path.{sym, _∙_}
+use mathlib.Core.Path.{sym}
 use native.Mathlib.Omega.{arith}
-use lib.ListN.{take}
 use Rattle.std.proofs.shelf.Lists.{getD-take, getD-past}
 use Rattle.boards.specs.Berths.{vesselsOf}
 use Rattle.boards.proofs.BerthLaws.{length-vessels}

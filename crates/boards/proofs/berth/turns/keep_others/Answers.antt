@@ -1,5 +1,3 @@
-use mathlib.Core.Path.{refl}
-use mathlib.Core.Bool.{not}
 use native.Mathlib.Omega.{arith}
 use lib.Dec.{eqb}
 use lib.ListN.{getD}
@@ -15,7 +13,7 @@ loop-i-again c =
     let x = getD ys (c .loop-i .i) 0 in
     let v = c .args .vessel in
     elim (c .if-other-vessel .came) [
-      then-other-vessel w ↦ rw (w .vessels-is, w .count-is) (keeping-more-set (c .loop-i .inv) (omega arith) (not-from-false (eqb x v) (ne-eqb x v (w .if-other-vessel .taken))) (getD-default ys (c .loop-i .i) 0 x (omega arith)))
+      | then-other-vessel w ↦ rw (w .vessels-is, w .count-is) (keeping-more-set (c .loop-i .inv) (omega arith) (not-from-false (eqb x v) (ne-eqb x v (w .if-other-vessel .taken))) (getD-default ys (c .loop-i .i) 0 x (omega arith)))
       | else-other-vessel w ↦ rw (w .vessels-is, w .count-is) (keeping-more-no (c .loop-i .inv) (omega arith) (not-from-true (eqb x v) (eq-eqb x v (w .if-other-vessel .left))) (getD-default ys (c .loop-i .i) 0 x (omega arith)))
     ]
 
