@@ -45,3 +45,13 @@ module _ (w h b p q k : ℕ) where
 pub applied-list : {rule : Rule} {old new : Lists} {w h b : ℕ} {a : Action} {v : ℕ} {o : Outcome} → Applied rule old new w h b a v o → inRange w h b v ≡ true → new w h b ≡ rule (old w h b) a v .list
 applied-list {rule} {old} {new} {w} {h} {b} {a} {v} {o} d ok =
     d .lists w h b ∙ cond-true (eqb w w && (eqb h h && eqb b b)) (turned rule w h b a v (old w h b) .list) (old w h b) (is-place w h b w h b (refl, refl, refl)) ∙ ap (λ t. t .list) (turned-in-range rule w h b a v (old w h b) ok)
+
+pub applied-outcome : {rule : Rule} {old new : Lists} {w h b : ℕ} {a : Action} {v : ℕ} {o : Outcome} → Applied rule old new w h b a v o → inRange w h b v ≡ true → o ≡ rule (old w h b) a v .outcome
+applied-outcome {rule} {old} {new} {w} {h} {b} {a} {v} {o} d ok = d .outcome ∙ ap (λ t. t .outcome) (turned-in-range rule w h b a v (old w h b) ok)
+
+-- a vessel in range is not 0
+pub vessel-in-range : (w h b v : ℕ) → inRange w h b v ≡ true → 0 < v
+vessel-in-range w h b v ok =
+    let x = and-parts (ltb w 8) (ltb h 8 && (leb b 15 && ltb 0 v)) ok in
+    let y = and-parts (ltb h 8) (leb b 15 && ltb 0 v) (x .1) in
+    ltb-true 0 v (and-parts (leb b 15) (ltb 0 v) (y .1) .1)

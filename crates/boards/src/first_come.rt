@@ -53,10 +53,10 @@ impl FirstCome {
     fn first(&self, watching: u8, home: u8, berth: u8) -> u16
         ensures { λ r. ⌜ alone r ≡ shownBy alone (now (self .entry) .alongside) watching home berth ⌝ }
     {
-        match place_of(watching, home, berth) {
-            Some(at) => self.alongside[at],
-            None => 0,
-        }
+        let Some(at) = place_of(watching, home, berth) else {
+            return 0;
+        };
+        self.alongside[at]
     }
 }
 
@@ -68,13 +68,10 @@ pub impl Board for FirstCome as FirstComeBoard {
     ghost holds = { atMost 1 };
 
     fn apply(&mut self, watching: u8, home: u8, berth: u8, action: Action, vessel: u16) -> Outcome {
-        let Some(at) = place_of(watching, home, berth) else {
-            return Outcome::Clash;
-        };
-        if vessel == 0 {
-            return Outcome::Clash;
+        match place_of(watching, home, berth) {
+            Some(at) if vessel != 0 => turn(&mut self.alongside[at], action, vessel),
+            _ => Outcome::Clash,
         }
-        turn(&mut self.alongside[at], action, vessel)
     }
 
     fn len(&self, watching: u8, home: u8, berth: u8) -> usize {
@@ -86,11 +83,8 @@ pub impl Board for FirstCome as FirstComeBoard {
     }
 
     fn vessel_at(&self, watching: u8, home: u8, berth: u8, place: usize) -> u16 {
-        if place == 0 {
-            self.first(watching, home, berth)
-        } else {
-            0
-        }
+        let first = self.first(watching, home, berth);
+        if place == 0 { first } else { 0 }
     }
 
     fn empty(&mut self) {

@@ -29,10 +29,10 @@ impl Queue {
     fn berth(&self, watching: u8, home: u8, berth: u8) -> Berth
         ensures { λ r. ⌜ vesselsOf r ≡ shownBy vesselsOf (now (self .entry) .berths) watching home berth ⌝ }
     {
-        match place_of(watching, home, berth) {
-            Some(at) => self.berths[at],
-            None => Berth::new(),
-        }
+        let Some(at) = place_of(watching, home, berth) else {
+            return Berth::new();
+        };
+        self.berths[at]
     }
 }
 
@@ -44,13 +44,10 @@ pub impl Board for Queue as QueueBoard {
     ghost holds = { atMost 4 };
 
     fn apply(&mut self, watching: u8, home: u8, berth: u8, action: Action, vessel: u16) -> Outcome {
-        let Some(at) = place_of(watching, home, berth) else {
-            return Outcome::Clash;
-        };
-        if vessel == 0 {
-            return Outcome::Clash;
+        match place_of(watching, home, berth) {
+            Some(at) if vessel != 0 => self.berths[at].turn(action, vessel),
+            _ => Outcome::Clash,
         }
-        self.berths[at].turn(action, vessel)
     }
 
     fn len(&self, watching: u8, home: u8, berth: u8) -> usize {

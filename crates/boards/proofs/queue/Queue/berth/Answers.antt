@@ -4,5 +4,5 @@ use Rattle.boards.specs.Berths.{vesselsOf}
 use Rattle.boards.proofs.PlaceLaws.{shown-is}
 use Rattle.boards.proofs.queue.Queue.berth.Needs as need
 
-pub returns-in-Some : need.returns-in-Some
-returns-in-Some c = sym (shown-is vesselsOf (c .args .self .now .berths) (c .args .watching) (c .args .home) (c .args .berth) (c .in-Some .at) (omega arith) (c .in-Some .ensures tt) (c .index-self-at .result))
+pub returns : need.returns
+returns c = sym (shown-is vesselsOf (c .args .self .now .berths) (c .args .watching) (c .args .home) (c .args .berth) (c .in-Some .at) (omega arith) (c .in-Some .ensures tt) (c .index-self-at .result))
