@@ -1,0 +1,3 @@
+// One port: everything that it does by itself, without wire or board.
+pub mod undecided; // the notices handed in and not decided
+pub mod waiting; // the notices that wait for release

@@ -1,0 +1,1 @@
+// Joining, looking at the lowest, and taking it.
