@@ -1,6 +1,12 @@
--- What a port's two lists hold. Assumes nothing.
-use mathlib.Core.List.{List}
+-- What a port's two lists hold, and whom the waiting list turns away. Assumes nothing.
+use mathlib.Core.Bool.{Bool, _||_}
+use mathlib.Core.List.{List, [], _∷_}
+use Prim.Native.Nat.{ℕ}
+use lib.Dec.{ltb, leb}
 use lib.ListN.{take}
+use Rattle.std.specs.declared.option.Option.{Option}
+use Rattle.std.specs.declared.option.Option.the-variants.{Some, None}
+use Rattle.model.specs.Batches.{countFrom}
 use Rattle.records.specs.declared.notice.Handed.{Handed}
 use Rattle.records.specs.declared.notice.Decided.{Decided}
 use Rattle.ports.specs.declared.undecided.Undecided.{Undecided}
@@ -11,3 +17,12 @@ undecidedOf u = take (u .len) (u .notices)
 
 abbrev pub waitingOf : Waiting → List Decided
 waitingOf w = take (w .len) (w .notices)
+
+-- no notice of the source can join: eight of it wait, or there is no such port
+abbrev pub crowded : ℕ → List Decided → Bool
+crowded source ds = ltb 7 source || leb 8 (countFrom source ds)
+
+-- the first, which is the lowest of a list that rises
+abbrev pub firstOf : {X : Type 0} → List X → Option X
+firstOf [] = None
+firstOf (x ∷ xs) = Some x
