@@ -6,9 +6,8 @@ use mathlib.Core.Logic.{_⊎_, ⊎-elim}
 use Prim.Native.Nat.{ℕ, zero, suc, _+_, _-_, _*_, _≤_, _<_}
 use native.Mathlib.Omega.{arith}
 use lib.Dec.{eqb, ltb}
-use lib.ListN.{length, getD, take, drop}
+use lib.ListN.{length, getD, take}
 use Rattle.std.specs.shelf.Lists.{kept-by}
-use Rattle.std.proofs.shelf.Lists.{drop-more}
 use Rattle.std.proofs.shelf.Tests.{cond-true, cond-false, cond-both, cases-eq, cases-bool, eq-eqb, ne-eqb, lt-ltb, le-ltb, and-parts}
 use Rattle.std.proofs.shelf.Ways.{tells}
 use Rattle.std.specs.declared.option.Option.{Option}
@@ -36,17 +35,6 @@ count-cons p x xs =
     (λ (e : eqb (x .stamp .port) p ≡ true). rw e (omega arith))
     (λ (e : eqb (x .stamp .port) p ≡ false). rw e (omega arith))
     (cases-bool (eqb (x .stamp .port) p))
-
--- the count from place i on
-module _ (p : ℕ) (xs : List Decided) (i : ℕ) (d : Decided) (lt : i < length xs) where
-  count-here : countFrom p (drop i xs) ≡ countFrom p (drop (i + 1) xs) + one p (getD xs i d)
-  count-here = ap (countFrom p) (drop-more xs i d lt) ∙ count-cons p (getD xs i d) (drop (i + 1) xs)
-
-  pub count-one : getD xs i d .stamp .port ≡ p → countFrom p (drop i xs) ≡ countFrom p (drop (i + 1) xs) + 1
-  count-one e = omega (arith, count-here, cond-true {A = ℕ} (eqb (getD xs i d .stamp .port) p) 1 0 (eq-eqb _ _ e))
-
-  pub count-other : (getD xs i d .stamp .port ≡ p → ⊥) → countFrom p (drop i xs) ≡ countFrom p (drop (i + 1) xs)
-  count-other ne = omega (arith, count-here, cond-false {A = ℕ} (eqb (getD xs i d .stamp .port) p) 1 0 (ne-eqb _ _ ne))
 
 pub count-placed : (before : Decided → Decided → Bool) (p : ℕ) (x : Decided) (xs : List Decided) → countFrom p (placed before x xs) ≡ countFrom p xs + one p x
 count-placed before p x [] = count-cons p x []

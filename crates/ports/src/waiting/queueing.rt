@@ -10,6 +10,7 @@ ghost use Rattle.std.specs.declared.option.Option.the-variants.{None};
 ghost use mathlib.Core.Bool.{true, false};
 ghost use mathlib.Core.List.{[]};
 ghost use mathlib.Core.Path.{_≡_};
+use batches::counting::count_from;
 use crate::waiting::Waiting;
 use ordered::insert;
 use ordered::take_first;
@@ -39,18 +40,6 @@ const NOTHING: Decided = Decided {
         port: 0,
     },
 };
-
-fn count_from(notices: &[Decided], source: u8) -> usize
-    ensures { λ r. ⌜ r ≡ countFrom source (now (notices .entry)) ⌝ }
-{
-    let mut n = 0;
-    for d in notices {
-        if d.stamp.port == source {
-            n += 1;
-        }
-    }
-    n
-}
 
 impl Waiting {
     pub fn new() -> Waiting

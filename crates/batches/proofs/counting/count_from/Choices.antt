@@ -1,8 +1,8 @@
 use mathlib.Core.Path.{_≡_}
 use Prim.Native.Nat.{_+_, _≤_}
-use lib.ListN.{drop}
+use lib.ListN.{length, drop}
 use Rattle.model.specs.Batches.{countFrom}
-use Rattle.ports.proofs.waiting.queueing.count_from.Given as given
+use Rattle.batches.proofs.counting.count_from.Given as given
 
 abbrev pub Inv-loop-d : given.InvT-loop-d
 Inv-loop-d l = (l .n ≤ l .d-index) × (l .n + countFrom (l .source) (drop (l .d-index) (l .notices)) ≡ countFrom (l .source) (l .notices))
