@@ -20,7 +20,7 @@ use Rattle.ordered.proofs.Rises.{all-placed}
 use Rattle.records.specs.Keys.{decidedBefore, decidedKey}
 use Rattle.records.specs.declared.notice.Decided.{Decided}
 use Rattle.model.specs.Batches.{countFrom}
-use Rattle.ports.specs.Held.{firstOf}
+use Rattle.model.specs.Lists.{rest}
 
 -- the stamp is of one of the eight ports
 abbrev pub known : Decided → Bool
@@ -119,7 +119,7 @@ module _ (x : Decided) (len : ℕ) (old new : List Decided) (taken : Taken decid
   crowds-left each p = omega (arith, each p, ap (countFrom p) (taken .entries), count-cons p x (take (len - 1) new))
 
 -- the first of those that wait
-pub first-read : (xs : List Decided) (len : ℕ) (d : Decided) → 0 < len → len ≤ length xs → Some (getD xs 0 d) ≡ firstOf (take len xs)
+pub first-read : (xs : List Decided) (len : ℕ) (d : Decided) → 0 < len → len ≤ length xs → take len xs ≡ getD xs 0 d ∷ rest (take len xs)
 first-read [] len d some within = absurd (omega arith)
 first-read (x ∷ xs) zero d some within = absurd (omega arith)
 first-read (x ∷ xs) (suc len) d some within = refl

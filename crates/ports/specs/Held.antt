@@ -1,4 +1,5 @@
 -- What a port's two lists hold, and whom the waiting list turns away. Assumes nothing.
+use mathlib.Core.Path.{_≡_}
 use mathlib.Core.Bool.{Bool, _||_}
 use mathlib.Core.List.{List, [], _∷_}
 use Prim.Native.Nat.{ℕ}
@@ -7,6 +8,7 @@ use lib.ListN.{take}
 use Rattle.std.specs.declared.option.Option.{Option}
 use Rattle.std.specs.declared.option.Option.the-variants.{Some, None}
 use Rattle.model.specs.Batches.{countFrom}
+use Rattle.model.specs.Lists.{rest}
 use Rattle.records.specs.declared.notice.Handed.{Handed}
 use Rattle.records.specs.declared.notice.Decided.{Decided}
 use Rattle.ports.specs.declared.undecided.Undecided.{Undecided}
@@ -22,7 +24,7 @@ waitingOf w = take (w .len) (w .notices)
 abbrev pub crowded : ℕ → List Decided → Bool
 crowded source ds = ltb 7 source || leb 8 (countFrom source ds)
 
--- the first, which is the lowest of a list that rises
-abbrev pub firstOf : {X : Type 0} → List X → Option X
-firstOf [] = None
-firstOf (x ∷ xs) = Some x
+-- the lowest of a list that rises: its first, if it has one
+abbrev pub Lowest : List Decided → Option Decided → Type 0
+Lowest ds None = ds ≡ []
+Lowest ds (Some n) = ds ≡ n ∷ rest ds

@@ -2,7 +2,7 @@
 ghost use Rattle.model.specs.Batches.{countFrom};
 ghost use Rattle.model.specs.Lists.{rest};
 ghost use Rattle.ordered.specs.Orders.{placed};
-ghost use Rattle.ports.specs.Held.{waitingOf, crowded, firstOf};
+ghost use Rattle.ports.specs.Held.{waitingOf, crowded, Lowest};
 ghost use Rattle.records.specs.Keys.{decidedBefore};
 ghost use Rattle.records.specs.declared.fault.NetFault.the-variants.{SourceWaitingFull};
 ghost use Rattle.std.specs.Results.{Cases};
@@ -80,7 +80,7 @@ impl Waiting {
 
     // The lowest by stamp, if any waits.
     pub fn lowest(&self) -> Option<Decided>
-        ensures { λ r. ⌜ r ≡ firstOf (waitingOf (now (self .entry))) ⌝ }
+        ensures { λ r. ⌜ Lowest (waitingOf (now (self .entry))) r ⌝ }
     {
         if self.len == 0 {
             return None;
@@ -90,7 +90,7 @@ impl Waiting {
 
     // The lowest leaves.
     pub fn take_lowest(&mut self) -> Option<Decided>
-        ensures value { λ r. ⌜ r ≡ firstOf (waitingOf (now (self .entry))) ⌝ }
+        ensures value { λ r. ⌜ Lowest (waitingOf (now (self .entry))) r ⌝ }
         ensures after { λ _. ⌜ waitingOf (now (self .exit)) ≡ rest (waitingOf (now (self .entry))) ⌝ }
         ensures none { λ r. ⌜ (r ≡ None → now (self .exit) ≡ now (self .entry)) ⌝ }
     {

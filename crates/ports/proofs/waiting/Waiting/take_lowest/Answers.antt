@@ -1,4 +1,5 @@
-use mathlib.Core.Path.{_≡_, ap, sym, _∙_}
+use mathlib.Core.Path.{_≡_, ap, sym, subst, _∙_}
+use mathlib.Core.List.{_∷_}
 use native.Mathlib.Omega.{arith}
 use Prim.Native.Nat.{ℕ, _<_, _≤_}
 use Rattle.std.specs.declared.option.Option.{Option}
@@ -7,7 +8,7 @@ use Rattle.records.specs.Keys.{decidedBefore}
 use Rattle.records.specs.declared.notice.Decided.{Decided}
 use Rattle.ordered.specs.Lists.{Taken}
 use Rattle.model.specs.Lists.{rest}
-use Rattle.ports.specs.Held.{firstOf}
+use Rattle.ports.specs.Held.{Lowest, waitingOf}
 use Rattle.ports.proofs.Crowds.{taken-from, known-left, crowds-left}
 use Rattle.ports.proofs.waiting.Waiting.take_lowest.Needs as need
 use Rattle.ports.proofs.waiting.Waiting.take_lowest.Needs.{After-take-first-lowest}
@@ -25,7 +26,7 @@ pub returns : need.returns
 returns c =
     let t = taken (need.at·returns c .After-take-first-lowest) in
     record {
-      value = t .1 ∙ ap firstOf (sym (t .2 .entries));
+      value = subst (Lowest (waitingOf (c .args .self .now))) (sym (t .1)) (t .2 .entries ∙ ap (λ xs. t .0 ∷ rest xs) (sym (t .2 .entries)));
       after = ap rest (sym (t .2 .entries));
       none = λ e. let z : _≡_ {A = ℕ} 0 1 = cc (t .1) in absurd (omega arith);
     }
