@@ -1,0 +1,56 @@
+-- What a port means. Assumes nothing.
+use mathlib.Core.Path.{_≡_}
+use mathlib.Core.Bool.{Bool, false, not, _||_}
+use mathlib.Core.List.{List, []}
+use Prim.Native.Nat.{ℕ}
+use lib.Dec.{eqb, ltb, leb}
+use lib.ListN.{getD}
+use Rattle.std.specs.declared.option.Option.{Option}
+use Rattle.std.specs.declared.option.Option.the-variants.{None, Some}
+use Rattle.records.specs.declared.notice.Decided.{Decided}
+use Rattle.records.specs.declared.notice.Record.{Record}
+use Rattle.records.specs.declared.notice.Record.the-variants.{Notice as Carries, Empty}
+use Rattle.records.specs.declared.fault.NetFault.{NetFault}
+use Rattle.records.specs.declared.fault.NetFault.the-variants.{NoSuchPort, SourceWaitingFull}
+use Rattle.model.specs.Views.{PortView}
+use Rattle.model.specs.Batches.{goesTo, countFrom}
+use Rattle.model.specs.Refusals.{_when_else_}
+use Rattle.model.specs.Steps.{afterRelease}
+use Rattle.ports.specs.declared.port.Port.{Port}
+use Rattle.ports.specs.Held.{undecidedOf, waitingOf, Lowest}
+
+-- a dispatcher beyond the four has count and clock 0, a source beyond the eight has no clearance
+abbrev pub portView : Port → PortView
+portView p = record {
+  undecided = undecidedOf (p .undecided);
+  given = λ d. getD (p .given) d 0;
+  settled = λ d. getD (p .settled) d 0;
+  clock = λ d. getD (p .clocks) d 0;
+  number = p .number;
+  floor = p .floor;
+  clearance = λ f. getD (p .clearances) f None;
+  waiting = waitingOf (p .waiting);
+}
+
+-- the port is still the same one, and means this now
+pub record Became (old new : Port) (v : PortView) : Type 0 where
+  pub own : new .own ≡ old .own
+  pub view : portView new ≡ v
+
+-- the lowest waiting notice was released; where none waits, nothing changed
+abbrev pub Released : Port → Port → Option Decided → Type 0
+Released old new None = (portView old .waiting ≡ []) × (new ≡ old)
+Released old new (Some n) = Lowest (portView old .waiting) (Some n) × Became old new (afterRelease n (portView old))
+
+-- a notice that cannot join what waits at port own as one of the source: eight of that source wait, or it is not of that source,
+-- or not addressed to the port
+abbrev pub misfits : ℕ → ℕ → Record → List Decided → Bool
+misfits own source (Carries d) ds = not (eqb (d .stamp .port) source) || (not (goesTo own d) || leb 8 (countFrom source ds))
+misfits own source (Empty s) ds = false
+
+-- when a fetched record is refused
+abbrev pub admitFault : Port → ℕ → Record → Option NetFault
+admitFault p source x =
+    NoSuchPort when ltb 7 source else
+    SourceWaitingFull when misfits (p .own) source x (portView p .waiting) else
+    None

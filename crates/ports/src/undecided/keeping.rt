@@ -1,0 +1,63 @@
+// Adding a notice, and what a batch leaves.
+ghost use Prim.Native.Nat.{_≤_};
+ghost use Rattle.ordered.specs.Orders.{placed};
+ghost use Rattle.ports.specs.Held.{undecidedOf};
+ghost use Rattle.records.specs.Keys.{handedBefore};
+ghost use Rattle.records.specs.declared.fault.NetFault.the-variants.{UndecidedFull};
+ghost use Rattle.std.specs.Results.{Cases};
+ghost use lib.ListN.{length};
+ghost use mathlib.Core.List.{[]};
+ghost use mathlib.Core.Path.{_≡_};
+use crate::undecided::Undecided;
+use ordered::insert;
+use records::entries::HandedEntry;
+use records::fault::NetFault;
+use records::mask::Mask;
+use records::notice::Action;
+use records::notice::Handed;
+use records::notice::Notice;
+
+// What stands in a place that is spare.
+const NOTHING: Handed = Handed {
+    notice: Notice {
+        source: 0,
+        dispatcher: 0,
+        count: 0,
+        to: Mask { bits: 0 },
+        home: 0,
+        berth: 0,
+        action: Action::Take,
+        vessel: 0,
+    },
+    clock: 0,
+};
+
+impl Undecided {
+    pub fn new() -> Undecided
+        ensures { λ r. ⌜ undecidedOf r ≡ [] ⌝ }
+    {
+        Undecided {
+            notices: [NOTHING; 16],
+            len: 0,
+        }
+    }
+
+    // The notices, in their order.
+    pub fn list(&self) -> &[Handed]
+        ensures { λ r. ⌜ now r ≡ undecidedOf (now (self .entry)) ⌝ }
+    {
+        &self.notices[0..self.len]
+    }
+
+    // Puts the notice in its place; where 16 are undecided it is refused.
+    pub fn add(&mut self, notice: Handed) -> Result<(), NetFault>
+        ensures { λ r. ⌜ Cases r (λ _. undecidedOf (now (self .exit)) ≡ placed handedBefore notice (undecidedOf (now (self .entry)))) (λ f. (f ≡ UndecidedFull) × (16 ≤ length (undecidedOf (now (self .entry)))) × (now (self .exit) ≡ now (self .entry))) ⌝ }
+    {
+        if self.len == 16 {
+            return Err(NetFault::UndecidedFull);
+        }
+        let _ = insert(&mut self.notices, self.len, notice);
+        self.len += 1;
+        Ok(())
+    }
+}
