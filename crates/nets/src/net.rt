@@ -4,6 +4,10 @@ ghost use mathlib.Core.Path.{_≡_};
 use ports::port::Port;
 use records::reach::Reach;
 
+pub mod bringing; // bring
+pub mod opening; // open
+mod reading; // what the calls look up in the table
+
 // A reach table, a port for each of eight numbers, of which those of the table are used, and the wire and the board that the
 // net owns.
 #[derive(Drop)]
