@@ -2,18 +2,22 @@
 use mathlib.Core.Path.{_≡_, refl, sym, ap, _∙_}
 use mathlib.Core.Bool.{Bool, true, false, cond, _||_}
 use mathlib.Core.List.{[]}
-use Prim.Native.Nat.{ℕ}
+use Prim.Native.Nat.{ℕ, _<_}
+use native.Mathlib.Omega.{arith}
+use lib.Dec.{ltb}
 use Rattle.std.specs.declared.option.Option.{Option}
 use Rattle.std.specs.declared.option.Option.the-variants.{Some}
-use Rattle.std.proofs.shelf.Tests.{cond-true, cond-false}
+use Rattle.std.proofs.shelf.Tests.{cond-true, cond-false, ltb-true, not-false}
+use Rattle.records.specs.declared.reach.Reach.{Reach}
 use Rattle.records.specs.declared.fault.NetFault.{NetFault}
 use Rattle.boards.specs.Rules.{Rule}
 use Rattle.model.specs.Calls.{Call}
 use Rattle.model.specs.Histories.{Told, Step, refused}
 use Rattle.model.specs.Refusals.{faultOf, _when_else_}
-use Rattle.model.specs.Views.{View}
+use Rattle.model.specs.Views.{View, outside}
 use Rattle.model.proofs.Sound.{lives-on}
 use Rattle.nets.specs.Promises.{Kept}
+use Rattle.nets.specs.Views.{tableOf}
 
 module _ {depth : ℕ} {rule : Rule} where
   pub kept : {v w : View} {e : Told} → Step depth rule v e w → Kept depth rule v e w
@@ -32,3 +36,7 @@ passes f b next e = cond-false b (Some f) next e
 -- the answer of two tests that are asked together
 pub any-of : {a b x y r : Bool} → a ≡ x → b ≡ y → (a || b) ≡ r → (x || y) ≡ r
 any-of {a} {b} {x} {y} p q e = ap (λ z. z || y) (sym p) ∙ ap (λ z. a || z) (sym q) ∙ e
+
+-- a port of the table is one of eight
+pub inside-table : (r : Reach) (p : ℕ) → outside (tableOf r) p ≡ false → p < 8
+inside-table r p e = omega (arith, ltb-true p (r .ports) (not-false (ltb p (r .ports)) e), r .count .1)

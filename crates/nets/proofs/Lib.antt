@@ -1,2 +1,4 @@
 pub mod Keeping
 pub mod Opening
+pub mod Ports
+pub mod Releasing

@@ -6,6 +6,7 @@ use records::reach::Reach;
 
 pub mod bringing; // bring
 pub mod opening; // open
+pub mod releasing; // release
 mod reading; // what the calls look up in the table
 
 // A reach table, a port for each of eight numbers, of which those of the table are used, and the wire and the board that the

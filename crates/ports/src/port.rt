@@ -10,8 +10,10 @@ use crate::undecided::Undecided;
 use crate::waiting::Waiting;
 use records::stamp::Pair;
 
+pub mod handing; // a dispatcher hands a notice in
 pub mod releasing; // who holds the lowest waiting notice, and its release
 pub mod opening; // a fresh port
+pub mod admitting; // a fetched record
 pub mod clearing; // the pair of a clearance, and the floor that it leaves
 
 // Port `own`, with the notices that are undecided and those that wait here. For each of its four dispatchers: the last count

@@ -5,12 +5,13 @@ ghost use Rattle.model.specs.Stamping.{raised};
 ghost use Rattle.model.specs.Steps.{afterRelease};
 ghost use Rattle.ports.specs.Held.{Lowest};
 ghost use Rattle.ports.specs.Ports.{portView, Released};
-ghost use Rattle.records.specs.Masks.{named};
+ghost use Rattle.records.specs.Reaching.{sends};
 ghost use mathlib.Core.Bool.{_&&_};
 ghost use mathlib.Core.Path.{_≡_};
 use crate::port::Port;
 use records::mask::Mask;
 use records::notice::Decided;
+use records::reach::Reach;
 use records::stamp::Pair;
 
 // Whether a source of this clearance holds a notice of this pair.
@@ -41,13 +42,13 @@ impl Port {
         self.waiting.lowest()
     }
 
-    // Those of the senders who hold a notice of this pair: their clearance is missing, or below it.
-    pub fn holders(&self, senders: Mask, pair: Pair) -> Mask
-        ensures { λ r. ⌜ r .bits ≡ maskOf 8 (λ f. named (senders .bits) f && holds (portView (now (self .entry)) .clearance f) pair) ⌝ }
+    // Those who can send here and hold a notice of this pair: their clearance is missing, or below it.
+    pub fn holders(&self, reach: &Reach, pair: Pair) -> Mask
+        ensures { λ r. ⌜ r .bits ≡ maskOf 8 (λ f. sends (now (reach .entry) .masks) f (now (self .entry) .own) && holds (portView (now (self .entry)) .clearance f) pair) ⌝ }
     {
         let mut bits = 0;
         for f in 0..8u8 {
-            if senders.names(f) & holds(self.clearances[f as usize], pair) {
+            if reach.sends(f, self.own) & holds(self.clearances[f as usize], pair) {
                 bits += 1u8 << f;
             }
         }
