@@ -7,16 +7,16 @@ use native.Mathlib.Omega.{arith}
 use lib.Dec.{ltb}
 use Rattle.std.specs.declared.option.Option.{Option}
 use Rattle.std.specs.declared.option.Option.the-variants.{Some}
-use Rattle.std.proofs.shelf.Tests.{cond-true, cond-false, ltb-true, not-false}
+use Rattle.std.proofs.shelf.Tests.{cond-true, cond-false, ltb-true, not-false, or-parts}
 use Rattle.records.specs.declared.reach.Reach.{Reach}
 use Rattle.records.specs.declared.fault.NetFault.{NetFault}
 use Rattle.boards.specs.Rules.{Rule}
 use Rattle.model.specs.Calls.{Call}
-use Rattle.model.specs.Histories.{Told, Step, refused}
+use Rattle.model.specs.Histories.{Told, History, Step, Lived, refused}
 use Rattle.model.specs.Refusals.{faultOf, _when_else_}
 use Rattle.model.specs.Views.{View, outside}
 use Rattle.model.proofs.Sound.{lives-on}
-use Rattle.nets.specs.Promises.{Kept}
+use Rattle.nets.specs.Promises.{Kept, KeptAfter}
 use Rattle.nets.specs.Views.{tableOf}
 
 module _ {depth : ℕ} {rule : Rule} where
@@ -25,6 +25,9 @@ module _ {depth : ℕ} {rule : Rule} where
 
   pub kept-refused : (v : View) (c : Call) (f : NetFault) → faultOf depth v c ≡ Some f → Kept depth rule v (refused c f) v
   kept-refused v c f e = kept record { fault = e; same = refl }
+
+  pub kept-after : {v w : View} {e : Told} → ((h : History) → Lived depth rule h v → Step depth rule v e w) → KeptAfter depth rule v e w
+  kept-after s h l = (s h l, lives-on l (s h l))
 
 -- a fault whose test passes, and one whose test does not
 pub stops : (f : NetFault) (b : Bool) (next : Option NetFault) → b ≡ true → (f when b else next) ≡ Some f
@@ -40,3 +43,10 @@ any-of {a} {b} {x} {y} p q e = ap (λ z. z || y) (sym p) ∙ ap (λ z. a || z) (
 -- a port of the table is one of eight
 pub inside-table : (r : Reach) (p : ℕ) → outside (tableOf r) p ≡ false → p < 8
 inside-table r p e = omega (arith, ltb-true p (r .ports) (not-false (ltb p (r .ports)) e), r .count .1)
+
+-- of two ports that are asked together, each is
+pub first-inside : (r : Reach) (p q : ℕ) → (outside (tableOf r) p || outside (tableOf r) q) ≡ false → p < 8
+first-inside r p q e = inside-table r p (or-parts (outside (tableOf r) p) (outside (tableOf r) q) e .0)
+
+pub second-inside : (r : Reach) (p q : ℕ) → (outside (tableOf r) p || outside (tableOf r) q) ≡ false → q < 8
+second-inside r p q e = inside-table r q (or-parts (outside (tableOf r) p) (outside (tableOf r) q) e .1)

@@ -1,3 +1,4 @@
+pub mod Fetching
 pub mod Keeping
 pub mod Opening
 pub mod Ports

@@ -32,10 +32,13 @@ numbers (suc (suc (suc (suc (suc (suc zero)))))) h = refl
 numbers (suc (suc (suc (suc (suc (suc (suc zero))))))) h = refl
 numbers (suc (suc (suc (suc (suc (suc (suc (suc k)))))))) h = absurd (omega arith)
 
+pub in-ports : (ps : List Port) (at : ℕ) → Numbered ps → at < 8 → at < length ps
+in-ports ps at n lt = omega (arith, eight ps n)
+
 -- the port at a place, read with whatever default
 module _ (ps : List Port) (at : ℕ) (n : Numbered ps) (lt : at < 8) (d : Port) where
   inside : at < length ps
-  inside = omega (arith, eight ps n)
+  inside = in-ports ps at n lt
 
   pub port-is : portsOf ps at ≡ portView (getD ps at d)
   port-is = getD-map portView ps at d fresh inside

@@ -11,3 +11,7 @@ use Rattle.model.specs.Views.{View}
 pub record Kept (depth : ℕ) (rule : Rule) (v : View) (e : Told) (w : View) : Type 0 where
   pub does : Step depth rule v e w
   pub lives : (h : History) → Lived depth rule h v → Lived depth rule (e ∷ h) w × OneOrder (e ∷ h) w
+
+-- the same of a call whose doing is defined for nets that some history led to, as every net is that was opened
+abbrev pub KeptAfter : ℕ → Rule → View → Told → View → Type 0
+KeptAfter depth rule v e w = (h : History) → Lived depth rule h v → Step depth rule v e w × (Lived depth rule (e ∷ h) w × OneOrder (e ∷ h) w)
