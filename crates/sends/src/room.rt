@@ -9,7 +9,7 @@ use records::notice::Decided;
 use wires::wire::Wire;
 
 // Whether there is a line from one port to the other.
-fn is_line(from: u8, to: u8) -> bool
+pub(crate) fn is_line(from: u8, to: u8) -> bool
     ensures { λ r. ⌜ r ≡ isLine from to ⌝ }
 {
     from < 8 && to < 8 && from != to
