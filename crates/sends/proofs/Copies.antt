@@ -9,7 +9,7 @@ use lib.Dec.{eqb, ltb}
 use lib.ListN.{length, getD, take, drop}
 use Rattle.std.proofs.shelf.Lists.{append-nil, drop-more, take-more, length-append, length-map, map-append}
 use Rattle.std.proofs.shelf.Elements.{kept-by-append}
-use Rattle.std.proofs.shelf.Tests.{cond-true, cond-false, cases-eq, eq-eqb, and-from, and-right, and-parts, le-ltb}
+use Rattle.std.proofs.shelf.Tests.{cond-true, cond-false, cases-eq, eq-eqb, and-from, and-parts, le-ltb}
 use Rattle.std.proofs.shelf.Ways.{tells}
 use Rattle.records.specs.declared.notice.Decided.{Decided}
 use Rattle.records.specs.declared.notice.Record.{Record}
@@ -22,9 +22,6 @@ use Rattle.model.specs.Refusals.{room}
 use Rattle.sends.proofs.Rooms.{room-at, room-from}
 
 -- ---- on one line
-
-pub copies-off : (a : ℕ) (ds : List Decided) (p q : ℕ) → isLine p q ≡ false → copiesOn a ds p q ≡ []
-copies-off a ds p q e = cond-false (eqb p a && isLine p q) (map Carries (sentTo q ds)) [] (and-right (eqb p a) (isLine p q) e)
 
 pub copies-on : (a : ℕ) (ds : List Decided) (q : ℕ) → isLine a q ≡ true → copiesOn a ds a q ≡ map Carries (sentTo q ds)
 copies-on a ds q e = cond-true (eqb a a && isLine a q) (map Carries (sentTo q ds)) [] (and-from (eqb a a) (isLine a q) (eq-eqb a a refl) e)

@@ -1,7 +1,9 @@
 // Whether the lines have room for the copies of a batch.
+ghost use Prim.Native.Nat.{_-_};
 ghost use Rattle.model.specs.Batches.{copiesOn};
 ghost use Rattle.model.specs.Refusals.{room};
-ghost use Rattle.wires.specs.Lines.{isLine};
+ghost use Rattle.wires.specs.Lines.{isLine, depthOf};
+ghost use lib.Dec.{leb};
 ghost use lib.ListN.{length};
 ghost use mathlib.Core.Path.{_≡_};
 use batches::counting::count_for;
@@ -25,12 +27,19 @@ fn copies_to(notices: &[Decided], port: u8, to: u8) -> usize
     count_for(notices, to)
 }
 
+// Whether the line from the port to another has a free place for each copy that it is to get.
+fn fits<W: Wire>(wire: &W, port: u8, to: u8, notices: &[Decided]) -> bool
+    ensures { λ r. ⌜ r ≡ leb (length (copiesOn port (now (notices .entry)) port to)) (depthOf depth port to - length (line (now (wire .entry)) port to .held)) ⌝ }
+{
+    copies_to(notices, port, to) <= wire.free(port, to)
+}
+
 // Whether each line from the port has a free place for each copy that it is to get.
 pub fn has_room<W: Wire>(wire: &W, port: u8, notices: &[Decided]) -> bool
     ensures { λ r. ⌜ r ≡ room depth (line (now (wire .entry))) port (copiesOn port (now (notices .entry))) ⌝ }
 {
     for to in 0..8u8 {
-        if wire.free(port, to) < copies_to(notices, port, to) {
+        if !fits(wire, port, to, notices) {
             return false;
         }
     }

@@ -29,12 +29,18 @@ pub fn send_batch<W: Wire>(wire: &mut W, port: u8, notices: &[Decided]) -> Resul
     Ok(())
 }
 
-// Puts a clearance, an empty notice of this stamp, on the line from its port to each port of the mask, or, where one of
-// these lines is full, on none.
+// Puts a clearance, an empty notice of this stamp, on the line from its port to each port of the mask, or on none.
 pub fn send_clearance<W: Wire>(wire: &mut W, to: Mask, stamp: Stamp) -> Result<(), NetFault>
     ensures { λ r. ⌜ AllOrNone line depth (now (wire .entry)) (now (wire .exit)) (stamp .port) (toEach (stamp .port) (to .bits) (Empty stamp)) r ⌝ }
 {
-    wires::send(wire, stamp.port, to, Record::Empty(stamp))
+    send_to_each(wire, stamp.port, to, Record::Empty(stamp))
+}
+
+// Puts the record on the line from the port to each port of the mask, or, where one of these lines is full, on none.
+fn send_to_each<W: Wire>(wire: &mut W, from: u8, to: Mask, record: Record) -> Result<(), NetFault>
+    ensures { λ r. ⌜ AllOrNone line depth (now (wire .entry)) (now (wire .exit)) from (toEach from (to .bits) «record») r ⌝ }
+{
+    wires::send(wire, from, to, record)
 }
 
 // Whether the port's notice is to be copied to another: it is addressed there, and there is a line.

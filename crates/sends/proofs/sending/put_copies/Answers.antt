@@ -26,7 +26,7 @@ loop-to-again g c =
       | then-is-copied w ↦
           let new = m .line (w .put .last .self) in
           let on : gets a d n ≡ true = sym {b = gets a d n} (w .if-is-copied .ensures tt) in
-          let t = put-since-space (m .depth) mid new a n (Carries d) (w .put .result) (w .put .ensures) (first-space a d old mid n inv (m .depth) (c .pre) on (c .loop-to-test .taken)) in
+          let t = put-since-space (m .depth) mid new a n (Carries d) (w .put .result) (w .put .ensures) (first-space a d old mid n inv (m .depth) (c .pre) on (omega (arith, c .loop-to-test .taken))) in
           subst (λ v. Grown old (m .line v) (below (n + 1) (copies a d))) (sym (w .wire-is)) (first-put a d old mid n inv (m .depth) new on t)
       | else-is-copied w ↦ subst (λ v. Grown old (m .line v) (below (n + 1) (copies a d))) (sym (w .wire-is)) (first-skip a d old mid n inv (sym {b = gets a d n} (w .if-is-copied .ensures tt)))
     ]
