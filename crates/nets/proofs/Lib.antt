@@ -1,3 +1,4 @@
+pub mod Clearing
 pub mod Fetching
 pub mod Keeping
 pub mod Opening

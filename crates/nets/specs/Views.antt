@@ -1,4 +1,5 @@
 -- What a net means. Assumes nothing.
+use mathlib.Core.Path.{_≡_}
 use mathlib.Core.List.{List, map}
 use Prim.Native.Nat.{ℕ}
 use lib.ListN.{getD}
@@ -22,3 +23,10 @@ portsOf ps p = getD (map portView ps) p fresh
 -- a net, by what its wire's lines mean and what its board shows
 abbrev pub view : {W B : Type 0} → (W → Lines) → (B → ℕ → ℕ → ℕ → Vessels) → Net W B → View
 view line shown n = record { table = tableOf (n .reach); port = portsOf (n .ports); line = line (n .wire); shown = shown (n .board) }
+
+-- nothing of the net differs
+pub record SameNet {W B : Type 0} (old new : Net W B) : Type 0 where
+  pub reach : new .reach ≡ old .reach
+  pub ports : new .ports ≡ old .ports
+  pub wire : new .wire ≡ old .wire
+  pub board : new .board ≡ old .board

@@ -5,6 +5,7 @@ use ports::port::Port;
 use records::reach::Reach;
 
 pub mod bringing; // bring
+pub mod clearing; // clear
 pub mod fetching; // fetch
 pub mod opening; // open
 pub mod releasing; // release
