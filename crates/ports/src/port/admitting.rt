@@ -1,5 +1,5 @@
 // A fetched record.
-ghost use Rattle.model.specs.Steps.{afterFetch};
+ghost use Rattle.model.specs.Steps.{pairOf, afterFetch};
 ghost use Rattle.ports.specs.Ports.{portView, Became, misfits, admitFault};
 ghost use Rattle.std.specs.Results.{Cases};
 ghost use Rattle.std.specs.declared.option.Option.the-variants.{None, Some};
@@ -8,6 +8,16 @@ ghost use mathlib.Core.Path.{_≡_};
 use crate::port::Port;
 use records::fault::NetFault;
 use records::notice::Record;
+use records::stamp::Pair;
+
+fn pair_of(record: Record) -> Pair
+    ensures { λ r. ⌜ r ≡ pairOf «record» ⌝ }
+{
+    match record {
+        Record::Notice(notice) => notice.stamp.pair,
+        Record::Empty(stamp) => stamp.pair,
+    }
+}
 
 impl Port {
     // Whether the port can take this record from the source.
@@ -36,14 +46,10 @@ impl Port {
         if !self.takes(source, record) {
             return Err(NetFault::SourceWaitingFull);
         }
-        let pair = match record {
-            Record::Notice(notice) => {
-                let _ = self.waiting.add(notice);
-                notice.stamp.pair
-            }
-            Record::Empty(stamp) => stamp.pair,
-        };
-        self.clearances[source as usize] = Some(pair);
-        Ok(())
+        self.clearances[source as usize] = Some(pair_of(record));
+        match record {
+            Record::Notice(notice) => self.waiting.add(notice),
+            Record::Empty(_) => Ok(()),
+        }
     }
 }
