@@ -4,17 +4,21 @@ use mathlib.Core.Bool.{Bool, false, not, _||_}
 use mathlib.Core.List.{List, []}
 use Prim.Native.Nat.{ℕ}
 use lib.Dec.{eqb, ltb, leb}
-use lib.ListN.{getD}
+use lib.ListN.{length, getD}
 use Rattle.std.specs.declared.option.Option.{Option}
 use Rattle.std.specs.declared.option.Option.the-variants.{None, Some}
+use Rattle.records.specs.declared.mask.Mask.{Mask}
+use Rattle.records.specs.declared.notice.Action.{Action}
+use Rattle.records.specs.declared.notice.Action.the-variants.{Take, Leave}
 use Rattle.records.specs.declared.notice.Decided.{Decided}
 use Rattle.records.specs.declared.notice.Record.{Record}
 use Rattle.records.specs.declared.notice.Record.the-variants.{Notice as Carries, Empty}
 use Rattle.records.specs.declared.fault.NetFault.{NetFault}
-use Rattle.records.specs.declared.fault.NetFault.the-variants.{NoSuchPort, SourceWaitingFull}
+use Rattle.records.specs.declared.fault.NetFault.the-variants.{NoSuchPort, NoSuchDispatcher, CountUsedUp, UndecidedFull, SourceWaitingFull}
 use Rattle.model.specs.Views.{PortView}
 use Rattle.model.specs.Batches.{goesTo, countFrom}
 use Rattle.model.specs.Refusals.{_when_else_}
+use Rattle.model.specs.Calls.{HandIn}
 use Rattle.model.specs.Steps.{afterRelease}
 use Rattle.ports.specs.declared.port.Port.{Port}
 use Rattle.ports.specs.Held.{undecidedOf, waitingOf, Lowest}
@@ -53,4 +57,21 @@ abbrev pub admitFault : Port → ℕ → Record → Option NetFault
 admitFault p source x =
     NoSuchPort when ltb 7 source else
     SourceWaitingFull when misfits (p .own) source x (portView p .waiting) else
+    None
+
+-- 1 take, 2 leave
+abbrev pub actionNumber : Action → ℕ
+actionNumber Take = 1
+actionNumber Leave = 2
+
+-- what a dispatcher of the port hands in
+abbrev pub handingIn : Port → ℕ → ℕ → Mask → ℕ → ℕ → Action → ℕ → HandIn
+handingIn p dispatcher reading to home berth action vessel = record { port = p .own; dispatcher = dispatcher; reading = reading; to = to .bits; home = home; berth = berth; action = actionNumber action; vessel = vessel }
+
+-- when the port itself refuses what is handed in; the net has looked at its content and destinations before
+abbrev pub handingFault : PortView → ℕ → Option NetFault
+handingFault o dispatcher =
+    NoSuchDispatcher when ltb 3 dispatcher else
+    CountUsedUp when leb 65535 (o .given dispatcher) else
+    UndecidedFull when leb 16 (length (o .undecided)) else
     None
