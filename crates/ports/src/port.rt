@@ -10,6 +10,7 @@ use crate::undecided::Undecided;
 use crate::waiting::Waiting;
 use records::stamp::Pair;
 
+pub mod deciding; // a batch is planned, and decided
 pub mod handing; // a dispatcher hands a notice in
 pub mod releasing; // who holds the lowest waiting notice, and its release
 pub mod opening; // a fresh port

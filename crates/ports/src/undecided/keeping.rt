@@ -1,5 +1,6 @@
 // Adding a notice, and what a batch leaves.
 ghost use Prim.Native.Nat.{_≤_};
+ghost use Rattle.model.specs.Batches.{left};
 ghost use Rattle.ordered.specs.Orders.{placed};
 ghost use Rattle.ports.specs.Held.{undecidedOf};
 ghost use Rattle.records.specs.Keys.{handedBefore};
@@ -8,6 +9,7 @@ ghost use Rattle.std.specs.Results.{Cases};
 ghost use lib.ListN.{length};
 ghost use mathlib.Core.List.{[]};
 ghost use mathlib.Core.Path.{_≡_};
+use batches::keeping::keep_left;
 use crate::undecided::Undecided;
 use ordered::insert;
 use records::entries::HandedEntry;
@@ -59,5 +61,13 @@ impl Undecided {
         let _ = insert(&mut self.notices, self.len, notice);
         self.len += 1;
         Ok(())
+    }
+
+    // The batch leaves: only the notices above their dispatchers' cuts stay.
+    pub fn keep(&mut self, cuts: &[u16; 4])
+        ensures { λ _. ⌜ undecidedOf (now (self .exit)) ≡ left (now (cuts .entry)) (undecidedOf (now (self .entry))) ⌝ }
+    {
+        let len = self.len;
+        self.len = keep_left(&mut self.notices[0..len], cuts);
     }
 }
