@@ -2,7 +2,7 @@
 use mathlib.Core.Path.{_≡_}
 use mathlib.Core.Bool.{Bool, false, not, _||_}
 use mathlib.Core.List.{List, []}
-use Prim.Native.Nat.{ℕ}
+use Prim.Native.Nat.{ℕ, _+_}
 use lib.Dec.{eqb, ltb, leb}
 use lib.ListN.{length, getD}
 use Rattle.std.specs.declared.option.Option.{Option}
@@ -14,11 +14,15 @@ use Rattle.records.specs.declared.notice.Decided.{Decided}
 use Rattle.records.specs.declared.notice.Record.{Record}
 use Rattle.records.specs.declared.notice.Record.the-variants.{Notice as Carries, Empty}
 use Rattle.records.specs.declared.fault.NetFault.{NetFault}
-use Rattle.records.specs.declared.fault.NetFault.the-variants.{NoSuchPort, NoSuchDispatcher, CountUsedUp, UndecidedFull, SourceWaitingFull}
+use Rattle.records.specs.declared.fault.NetFault.the-variants.{NoSuchPort, NoSuchDispatcher, CountUsedUp, UndecidedFull, WrongNumber, WrongCut, StepUsedUp, OwnWaitingFull, SourceWaitingFull}
+use Rattle.records.specs.declared.stamp.Pair.{Pair}
+use Rattle.batches.specs.declared.batch.Batch.{Batch}
+use Rattle.batches.specs.Stampings.{batchOf}
 use Rattle.model.specs.Views.{PortView}
-use Rattle.model.specs.Batches.{goesTo, countFrom}
-use Rattle.model.specs.Refusals.{_when_else_}
-use Rattle.model.specs.Calls.{HandIn}
+use Rattle.model.specs.Stamping.{floorAfter, stampable}
+use Rattle.model.specs.Batches.{goesTo, sentTo, countFrom}
+use Rattle.model.specs.Refusals.{_when_else_, cutsFit}
+use Rattle.model.specs.Calls.{HandIn, Decide, decision}
 use Rattle.model.specs.Steps.{afterRelease}
 use Rattle.ports.specs.declared.port.Port.{Port}
 use Rattle.ports.specs.Held.{undecidedOf, waitingOf, Lowest}
@@ -75,3 +79,22 @@ handingFault o dispatcher =
     CountUsedUp when leb 65535 (o .given dispatcher) else
     UndecidedFull when leb 16 (length (o .undecided)) else
     None
+
+-- what the port is asked to decide; the working list is the net's
+abbrev pub deciding : Port → ℕ → List ℕ → Decide
+deciding p number cuts = record { port = p .own; number = number; cuts = cuts; places = 16 }
+
+-- when the port itself refuses to decide; the net then looks for room on its lines
+abbrev pub decidingFault : PortView → Decide → Option NetFault
+decidingFault o x =
+    let ds : List Decided = decision o x in
+    WrongNumber when not (eqb (x .number) (o .number)) || ltb 65535 (x .number) else
+    WrongCut when not (cutsFit o (x .cuts)) else
+    StepUsedUp when not (stampable ds) else
+    OwnWaitingFull when ltb 8 (countFrom (x .port) (o .waiting) + length (sentTo (x .port) ds)) else
+    None
+
+-- the batch has these notices, and this floor behind them
+pub record Holds (b : Batch) (floor : Option Pair) (ds : List Decided) : Type 0 where
+  pub notices : batchOf b ≡ ds
+  pub floor-after : b .floor ≡ floorAfter floor ds

@@ -8,14 +8,19 @@ ghost use Rattle.model.specs.Refusals.{cutsFit};
 ghost use Rattle.model.specs.Steps.{afterDecide};
 ghost use Rattle.ordered.specs.Orders.{allPass};
 ghost use Rattle.ports.specs.Held.{waitingOf};
-ghost use Rattle.ports.specs.Ports.{portView, Became};
+ghost use Rattle.ports.specs.Ports.{portView, Became, deciding, decidingFault, Holds};
 ghost use Rattle.records.specs.Keys.{decidedBefore};
+ghost use Rattle.std.specs.Results.{Cases};
+ghost use Rattle.std.specs.declared.option.Option.the-variants.{None, Some};
 ghost use lib.Dec.{eqb};
 ghost use lib.ListN.{length};
 ghost use mathlib.Core.Bool.{true};
 ghost use mathlib.Core.Path.{_≡_};
+use batches::batch::Batch;
+use batches::counting::count_for;
 use crate::port::Port;
 use crate::waiting::Waiting;
+use records::fault::NetFault;
 use records::notice::Decided;
 
 // Those of the notices that are addressed to the port, which stamped them all, join what waits there.
@@ -43,5 +48,39 @@ impl Port {
             }
         }
         true
+    }
+
+    // What the port would decide: the batch of this number, up to these cuts.
+    pub fn plan(&self, number: u16, cuts: &[u16; 4]) -> Result<Batch, NetFault>
+        ensures { λ r. ⌜ Cases r (λ b. (decidingFault (portView (now (self .entry))) (deciding (now (self .entry)) number (now (cuts .entry))) ≡ None) × Holds b (portView (now (self .entry)) .floor) (decision (portView (now (self .entry))) (deciding (now (self .entry)) number (now (cuts .entry))))) (λ f. decidingFault (portView (now (self .entry))) (deciding (now (self .entry)) number (now (cuts .entry))) ≡ Some f) ⌝ }
+    {
+        if number as u32 != self.number {
+            return Err(NetFault::WrongNumber);
+        }
+        if !self.cuts_fit(cuts) {
+            return Err(NetFault::WrongCut);
+        }
+        let Ok(batch) = Batch::stamp(self.own, self.floor, self.undecided.list(), cuts) else {
+            return Err(NetFault::StepUsedUp);
+        };
+        let own = self.waiting.count_from(self.own) + count_for(batch.list(), self.own);
+        if own > 8 {
+            return Err(NetFault::OwnWaitingFull);
+        }
+        Ok(batch)
+    }
+
+    // Decides it: the batch leaves the undecided notices, and those of it that are for the port itself join its waiting list.
+    pub fn decide(&mut self, number: u16, cuts: &[u16; 4]) -> Result<Batch, NetFault>
+        ensures { λ r. ⌜ Cases r (λ b. (decidingFault (portView (now (self .entry))) (deciding (now (self .entry)) number (now (cuts .entry))) ≡ None) × Holds b (portView (now (self .entry)) .floor) (decision (portView (now (self .entry))) (deciding (now (self .entry)) number (now (cuts .entry)))) × Became (now (self .entry)) (now (self .exit)) (afterDecide (deciding (now (self .entry)) number (now (cuts .entry))) (portView (now (self .entry))))) (λ f. (decidingFault (portView (now (self .entry))) (deciding (now (self .entry)) number (now (cuts .entry))) ≡ Some f) × (now (self .exit) ≡ now (self .entry))) ⌝ }
+    {
+        let batch = self.plan(number, cuts)?;
+        let own = self.own;
+        join(&mut self.waiting, batch.list(), own);
+        self.undecided.keep(cuts);
+        self.settled = *cuts;
+        self.floor = batch.floor();
+        self.number += 1;
+        Ok(batch)
     }
 }
