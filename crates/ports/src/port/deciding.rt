@@ -16,10 +16,10 @@ ghost use lib.Dec.{eqb};
 ghost use lib.ListN.{length};
 ghost use mathlib.Core.Bool.{true};
 ghost use mathlib.Core.Path.{_≡_};
-use batches::batch::Batch;
-use batches::counting::count_for;
 use crate::port::Port;
 use crate::waiting::Waiting;
+use batches::batch::Batch;
+use batches::counting::count_for;
 use records::fault::NetFault;
 use records::notice::Decided;
 

@@ -39,10 +39,13 @@ returns-in-Notice c =
     let none = taken p source (c .args .record) (c .takes .result) (c .takes .ensures) (c .if-not-takes .left) in
     let fits = noticed p source (c .args .record) d (c .in-Notice .is) none in
     cases-weaker (c .add .result) (c .add .ensures)
-    (λ u e. (admit-none p source (c .args .record) (omega arith) none, record {
-      own = refl;
-      view = view-same _ _ refl refl refl refl refl refl
-        (set-changed (p .clearances) source (Some (c .pair-of .result)) None (omega (arith, p .sources)) ∙ ap (λ x. changed source (Some x) (portView p .clearance)) (c .pair-of .ensures))
-        (e .1 ∙ ap (λ x. joined x (waitingOf (p .waiting))) (sym (c .in-Notice .is)));
-    }))
+    (λ u e. (
+      admit-none p source (c .args .record) (omega arith) none,
+      record {
+        own = refl;
+        view = view-same _ _ refl refl refl refl refl refl
+            (set-changed (p .clearances) source (Some (c .pair-of .result)) None (omega (arith, p .sources)) ∙ ap (λ x. changed source (Some x) (portView p .clearance)) (c .pair-of .ensures))
+            (e .1 ∙ ap (λ x. joined x (waitingOf (p .waiting))) (sym (c .in-Notice .is)));
+      },
+    ))
     (λ f e. absurd (both-ways _ (fits-room (p .own) source d (waitingOf (p .waiting)) fits (omega arith)) (e .1)))
