@@ -6,7 +6,6 @@ use Prim.Native.Nat.{ℕ, zero, suc, _+_, _≤_, _<_}
 use native.Mathlib.Omega.{arith}
 use lib.Dec.{eqb, ltb, leb}
 use lib.ListN.{length, getD, drop}
-use Rattle.std.specs.Results.{Cases}
 use Rattle.std.specs.declared.option.Option.{Option}
 use Rattle.std.specs.declared.option.Option.the-variants.{Some}
 use Rattle.std.specs.declared.result.Result.{Result}
@@ -17,7 +16,6 @@ use Rattle.ordered.specs.Orders.{allPass, placed}
 use Rattle.ordered.proofs.Rises.{all-placed}
 use Rattle.records.specs.Keys.{decidedBefore}
 use Rattle.records.specs.declared.fault.NetFault.{NetFault}
-use Rattle.records.specs.declared.fault.NetFault.the-variants.{SourceWaitingFull}
 use Rattle.records.specs.declared.notice.Decided.{Decided}
 use Rattle.records.specs.declared.notice.Handed.{Handed}
 use Rattle.records.specs.declared.stamp.Pair.{Pair}
@@ -26,7 +24,7 @@ use Rattle.model.specs.Batches.{goesTo, sentTo, countFrom}
 use Rattle.model.specs.Lists.{placedAll}
 use Rattle.model.specs.Stamping.{nextPair, stamped}
 use Rattle.ports.specs.declared.waiting.Waiting.{Waiting}
-use Rattle.ports.specs.Held.{waitingOf, crowded}
+use Rattle.ports.specs.Held.{waitingOf, crowded, Joins}
 use Rattle.ports.proofs.Crowds.{count-placed}
 
 abbrev pub stampedHere : ℕ → Decided → Bool
@@ -70,7 +68,7 @@ module _ (port : ℕ) (ds all : List Decided) (i : ℕ) (d : Decided) (old new :
     free = subst (λ p. crowded p (waitingOf old) ≡ false) (sym from) (or-from (ltb 7 port) (leb 8 (countFrom port (waitingOf old))) (le-ltb 7 port (omega arith)) (lt-leb 8 (countFrom port (waitingOf old)) (omega (arith, inv .room, ap length next))))
 
     -- this one is, and finds its place
-    pub joining-more : {U : Type 0} (r : Result U NetFault) → Cases r (λ _. (crowded (getD ds i d .stamp .port) (waitingOf old) ≡ false) × (waitingOf new ≡ placed decidedBefore (getD ds i d) (waitingOf old))) (λ f. (f ≡ SourceWaitingFull) × (crowded (getD ds i d .stamp .port) (waitingOf old) ≡ true) × (new ≡ old)) → Joining port ds all (i + 1) (waitingOf new)
+    pub joining-more : {U : Type 0} (r : Result U NetFault) → Joins old new (getD ds i d) r → Joining port ds all (i + 1) (waitingOf new)
     joining-more (Err f) e = absurd (both-ways _ free (e .1))
     joining-more (Ok u) e =
         let one = cond-true {A = ℕ} (eqb (getD ds i d .stamp .port) port) 1 0 (eq-eqb _ _ from) in

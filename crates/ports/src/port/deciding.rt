@@ -1,17 +1,12 @@
 // A batch is planned, and decided.
 ghost use Prim.Native.Nat.{_+_, _<_, _≤_};
-ghost use Rattle.batches.specs.Stampings.{batchOf};
 ghost use Rattle.model.specs.Batches.{countFrom, sentTo};
-ghost use Rattle.model.specs.Calls.{decision};
 ghost use Rattle.model.specs.Lists.{placedAll};
 ghost use Rattle.model.specs.Refusals.{cutsFit};
-ghost use Rattle.model.specs.Steps.{afterDecide};
 ghost use Rattle.ordered.specs.Orders.{allPass};
 ghost use Rattle.ports.specs.Held.{waitingOf};
-ghost use Rattle.ports.specs.Ports.{portView, Became, deciding, decidingFault, Holds};
+ghost use Rattle.ports.specs.Ports.{portView, deciding, Plans, Decides};
 ghost use Rattle.records.specs.Keys.{decidedBefore};
-ghost use Rattle.std.specs.Results.{Cases};
-ghost use Rattle.std.specs.declared.option.Option.the-variants.{None, Some};
 ghost use lib.Dec.{eqb};
 ghost use lib.ListN.{length};
 ghost use mathlib.Core.Bool.{true};
@@ -52,7 +47,7 @@ impl Port {
 
     // What the port would decide: the batch of this number, up to these cuts.
     pub fn plan(&self, number: u16, cuts: &[u16; 4]) -> Result<Batch, NetFault>
-        ensures { λ r. ⌜ Cases r (λ b. (decidingFault (portView (now (self .entry))) (deciding (now (self .entry)) number (now (cuts .entry))) ≡ None) × Holds b (portView (now (self .entry)) .floor) (decision (portView (now (self .entry))) (deciding (now (self .entry)) number (now (cuts .entry))))) (λ f. decidingFault (portView (now (self .entry))) (deciding (now (self .entry)) number (now (cuts .entry))) ≡ Some f) ⌝ }
+        ensures { λ r. ⌜ Plans (now (self .entry)) (deciding (now (self .entry)) number (now (cuts .entry))) r ⌝ }
     {
         if number as u32 != self.number {
             return Err(NetFault::WrongNumber);
@@ -72,7 +67,7 @@ impl Port {
 
     // Decides it: the batch leaves the undecided notices, and those of it that are for the port itself join its waiting list.
     pub fn decide(&mut self, number: u16, cuts: &[u16; 4]) -> Result<Batch, NetFault>
-        ensures { λ r. ⌜ Cases r (λ b. (decidingFault (portView (now (self .entry))) (deciding (now (self .entry)) number (now (cuts .entry))) ≡ None) × Holds b (portView (now (self .entry)) .floor) (decision (portView (now (self .entry))) (deciding (now (self .entry)) number (now (cuts .entry)))) × Became (now (self .entry)) (now (self .exit)) (afterDecide (deciding (now (self .entry)) number (now (cuts .entry))) (portView (now (self .entry))))) (λ f. (decidingFault (portView (now (self .entry))) (deciding (now (self .entry)) number (now (cuts .entry))) ≡ Some f) × (now (self .exit) ≡ now (self .entry))) ⌝ }
+        ensures { λ r. ⌜ Decides (now (self .entry)) (now (self .exit)) (deciding (now (self .entry)) number (now (cuts .entry))) r ⌝ }
     {
         let batch = self.plan(number, cuts)?;
         let own = self.own;

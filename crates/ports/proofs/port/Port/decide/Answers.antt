@@ -16,18 +16,18 @@ join-requires c κs =
     let p = c .args .self .now in
     let cuts = c .args .cuts .now in
     let planned = c .in-Continue-batch .ensures tt in
-    let is = c .list .ensures ∙ planned .1 .notices in
+    let is = c .list .ensures ∙ planned .notices in
     record {
       port = p .port;
       stamped = ap (allPass (stampedHere (p .own))) is ∙ all-stamped (p .own) (p .floor) (batch cuts (undecidedOf (p .undecided)));
-      room = omega (arith, own-fit (portView p) (deciding p (c .args .number) cuts) (planned .0), ap (λ ds. length (sentTo (p .own) ds)) is);
+      room = omega (arith, own-fit (portView p) (deciding p (c .args .number) cuts) (planned .accepted), ap (λ ds. length (sentTo (p .own) ds)) is);
     }
 
 pub ghost-self : need.ghost-self
 ghost-self c =
     let p = c .args .self .now in
     let x = deciding p (c .args .number) (c .args .cuts .now) in
-    let none = c .in-Continue-batch .ensures tt .0 in
+    let none = c .in-Continue-batch .ensures tt .accepted in
     let ds = c .list .result .now in
     let addressed = ap (allPass (goesTo (p .own))) (c .join .ensures) ∙ all-placedAll decidedBefore (goesTo (p .own)) (sentTo (p .own) ds) (waitingOf (p .waiting)) (p .addressed) (kept-pass (goesTo (p .own)) ds) in
     (p .port, (omega (arith, number-is (portView p) x none, number-low (portView p) x none), (p .givens, (c .told-cuts, (p .lasts, (p .sources, (cut-given (portView p) x none (c .told-cuts), (addressed, tt))))))))
