@@ -26,19 +26,32 @@ use Rattle.model.specs.Stamping.{nextPair, stamped}
 use Rattle.ports.specs.declared.waiting.Waiting.{Waiting}
 use Rattle.ports.specs.Held.{waitingOf, crowded, Joins}
 use Rattle.ports.proofs.Crowds.{count-placed}
+use Rattle.ports.proofs.Leaving.{kept-pass}
 
 abbrev pub stampedHere : ℕ → Decided → Bool
 stampedHere port d = eqb (d .stamp .port) port
 
-pub all-stamped : (port : ℕ) (floor : Option Pair) (ns : List Handed) → allPass (stampedHere port) (stamped port floor ns) ≡ true
+all-stamped : (port : ℕ) (floor : Option Pair) (ns : List Handed) → allPass (stampedHere port) (stamped port floor ns) ≡ true
 all-stamped port floor [] = refl
 all-stamped port floor (n ∷ ns) = and-from (eqb port port) (allPass (stampedHere port) (stamped port (Some (nextPair floor (n .clock))) ns)) (eq-eqb port port refl) (all-stamped port (Some (nextPair floor (n .clock))) ns)
 
-pub all-placedAll : {X : Type 0} (before : X → X → Bool) (test : X → Bool) (ys xs : List X) → allPass test xs ≡ true → allPass test ys ≡ true → allPass test (placedAll before ys xs) ≡ true
+-- the notices of a batch: all are stamped by the port, and there is room for its own
+module _ (port : ℕ) (ds bs es : List Decided) (is : ds ≡ bs) (planned : bs ≡ es) where
+  pub batch-stamped : (floor : Option Pair) (ns : List Handed) → es ≡ stamped port floor ns → allPass (stampedHere port) ds ≡ true
+  batch-stamped floor ns e = ap (allPass (stampedHere port)) (is ∙ planned ∙ e) ∙ all-stamped port floor ns
+
+  pub batch-room : (n : ℕ) → n + length (sentTo port es) ≤ 8 → n + length (sentTo port ds) ≤ 8
+  batch-room n h = omega (arith, h, ap (λ xs. length (sentTo port xs)) (is ∙ planned))
+
+all-placedAll : {X : Type 0} (before : X → X → Bool) (test : X → Bool) (ys xs : List X) → allPass test xs ≡ true → allPass test ys ≡ true → allPass test (placedAll before ys xs) ≡ true
 all-placedAll before test [] xs h k = h
 all-placedAll before test (y ∷ ys) xs h k =
     let both = and-parts (test y) (allPass test ys) k in
     all-placedAll before test ys (placed before y xs) (all-placed before y test xs h (both .0)) (both .1)
+
+-- all that waits is addressed to the port still
+pub addressed-all : (port : ℕ) (ds old new : List Decided) → new ≡ placedAll decidedBefore (sentTo port ds) old → allPass (goesTo port) old ≡ true → allPass (goesTo port) new ≡ true
+addressed-all port ds old new e h = ap (allPass (goesTo port)) e ∙ all-placedAll decidedBefore (goesTo port) (sentTo port ds) old h (kept-pass (goesTo port) ds)
 
 all-at : {X : Type 0} (test : X → Bool) (xs : List X) (i : ℕ) (d : X) → allPass test xs ≡ true → i < length xs → test (getD xs i d) ≡ true
 all-at test [] i d h lt = absurd (omega arith)

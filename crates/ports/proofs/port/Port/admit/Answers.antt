@@ -38,9 +38,12 @@ returns-in-Notice c =
     let none = taken p source (c .args .record) (c .takes .result) (c .takes .ensures) (c .if-not-takes .left) in
     let fits = noticed p source (c .args .record) d (c .in-Notice .is) none in
     admits-joined p _ source (c .args .record) d (c .add .last .self) (c .add .result) (fits-room (p .own) source d (waitingOf (p .waiting)) fits (omega arith)) (c .add .ensures)
-    (λ e. (admit-none p source (c .args .record) (omega arith) none, record {
-      own = refl;
-      view = view-same _ _ refl refl refl refl refl refl
-        (set-changed (p .clearances) source (Some (c .pair-of .result)) None (omega (arith, p .sources)) ∙ ap (λ x. changed source (Some x) (portView p .clearance)) (c .pair-of .ensures))
-        (e ∙ ap (λ x. joined x (waitingOf (p .waiting))) (sym (c .in-Notice .is)));
-    }))
+    (λ e. (
+      admit-none p source (c .args .record) (omega arith) none,
+      record {
+        own = refl;
+        view = view-same _ _ refl refl refl refl refl refl
+            (set-changed (p .clearances) source (Some (c .pair-of .result)) None (omega (arith, p .sources)) ∙ ap (λ x. changed source (Some x) (portView p .clearance)) (c .pair-of .ensures))
+            (e ∙ ap (λ x. joined x (waitingOf (p .waiting))) (sym (c .in-Notice .is)));
+      },
+    ))

@@ -1,9 +1,11 @@
-use mathlib.Core.Path.{_≡_, sym}
+use mathlib.Core.Path.{_≡_, sym, subst}
 use mathlib.Core.Bool.{Bool, true, false, _&&_}
 use mathlib.Core.List.{List}
 use Prim.Native.Nat.{ℕ, _<_, _≤_}
 use lib.Dec.{leb}
 use lib.ListN.{getD}
+use native.Mathlib.Omega.{arith}
+use Rattle.model.specs.Lists.{every}
 use Rattle.std.proofs.shelf.Tests.{and-from, and-left, and-right, le-leb, lt-leb}
 use Rattle.ports.specs.declared.port.Port.{Port}
 use Rattle.ports.proofs.Cuts.{every-more, every-not}
@@ -24,3 +26,8 @@ returns-then-cuts-d c =
 
 pub loop-d-again : need.loop-d-again
 loop-d-again c = every-more (test (c .args .self .now) (c .args .cuts .now)) (c .loop-d .d) (c .loop-d .inv) (and-from _ _ (le-leb _ _ (c .if-cuts-d .left)) (le-leb _ _ (c .if-self-d .left)))
+
+pub returns : need.returns
+returns c =
+    let four : c .loop-d .d ≡ 4 = omega arith in
+    sym (subst (λ n. every n (test (c .args .self .now) (c .args .cuts .now)) ≡ true) four (c .loop-d .inv))
