@@ -6,14 +6,12 @@ use native.Mathlib.Omega.{arith}
 use lib.Dec.{ltb, leb}
 use lib.ListN.{length, getD}
 use Rattle.std.proofs.shelf.Tests.{cond-false, le-ltb, lt-leb}
-use Rattle.std.specs.Results.{Cases}
 use Rattle.std.specs.declared.option.Option.the-variants.{None}
 use Rattle.std.specs.declared.result.Result.{Result}
 use Rattle.std.specs.declared.result.Result.the-variants.{Err, Ok}
 use Rattle.ordered.specs.Orders.{placed}
 use Rattle.records.specs.Keys.{handedBefore}
 use Rattle.records.specs.declared.fault.NetFault.{NetFault}
-use Rattle.records.specs.declared.fault.NetFault.the-variants.{UndecidedFull}
 use Rattle.records.specs.declared.mask.Mask.{Mask}
 use Rattle.records.specs.declared.notice.Action.{Action}
 use Rattle.records.specs.declared.notice.Action.the-variants.{Take, Leave}
@@ -21,7 +19,7 @@ use Rattle.records.specs.declared.notice.Handed.{Handed}
 use Rattle.model.specs.Calls.{actionOf, handedOf}
 use Rattle.model.specs.Views.{PortView}
 use Rattle.ports.specs.declared.undecided.Undecided.{Undecided}
-use Rattle.ports.specs.Held.{undecidedOf}
+use Rattle.ports.specs.Held.{undecidedOf, Adds}
 use Rattle.ports.specs.Ports.{portView, actionNumber, handingIn, handingFault}
 use Rattle.ports.specs.declared.port.Port.{Port}
 
@@ -33,8 +31,8 @@ pub handing-none : (o : PortView) (d : ℕ) → d ≤ 3 → o .given d < 65535 �
 handing-none o d low count room = cond-false (ltb 3 d) _ _ (le-ltb 3 d low) ∙ cond-false (leb 65535 (o .given d)) _ _ (lt-leb 65535 (o .given d) count) ∙ cond-false (leb 16 (length (o .undecided))) _ _ (lt-leb 16 (length (o .undecided)) room)
 
 -- with room the notice joins
-pub added : {U : Type 0} (x : Handed) (old new : Undecided) (r : Result U NetFault) → length (undecidedOf old) < 16 → Cases r (λ _. undecidedOf new ≡ placed handedBefore x (undecidedOf old)) (λ f. (f ≡ UndecidedFull) × (16 ≤ length (undecidedOf old)) × (new ≡ old)) → undecidedOf new ≡ placed handedBefore x (undecidedOf old)
-added x old new (Ok u) room e = e
+pub added : {U : Type 0} (x : Handed) (old new : Undecided) (r : Result U NetFault) → length (undecidedOf old) < 16 → Adds old new x r → undecidedOf new ≡ placed handedBefore x (undecidedOf old)
+added x old new (Ok u) room e = e .1
 added x old new (Err f) room e = absurd (omega (arith, e .1))
 
 -- the notice as the code makes it

@@ -8,24 +8,22 @@ use native.Mathlib.Omega.{arith}
 use lib.Dec.{eqb, ltb, leb}
 use lib.ListN.{length, getD, set}
 use Rattle.std.proofs.shelf.Lists.{getD-set-same, getD-set-other}
-use Rattle.std.proofs.shelf.Tests.{cases-eq, cond-true, cond-false, eq-eqb, ne-eqb, or-parts, or-from, not-false, eqb-true, leb-false, le-ltb, lt-leb}
+use Rattle.std.proofs.shelf.Tests.{cases-eq, both-ways, cond-true, cond-false, eq-eqb, ne-eqb, or-parts, or-from, not-false, eqb-true, leb-false, le-ltb, lt-leb}
 use Rattle.model.specs.Views.{PortView}
-use Rattle.model.specs.Steps.{changed}
+use Rattle.model.specs.Steps.{changed, afterFetch}
 use Rattle.model.specs.Batches.{goesTo, countFrom}
 use Rattle.records.specs.declared.notice.Decided.{Decided}
 use Rattle.records.specs.declared.notice.Record.{Record}
 use Rattle.records.specs.declared.notice.Record.the-variants.{Notice as Carries}
-use Rattle.ports.specs.Held.{waitingOf, crowded}
+use Rattle.ports.specs.Held.{waitingOf, crowded, Joins}
 use Rattle.ports.specs.declared.waiting.Waiting.{Waiting}
-use Rattle.std.specs.Results.{Cases}
 use Rattle.std.specs.declared.result.Result.{Result}
 use Rattle.std.specs.declared.result.Result.the-variants.{Err, Ok}
 use Rattle.records.specs.Keys.{decidedBefore}
 use Rattle.records.specs.declared.fault.NetFault.{NetFault}
-use Rattle.records.specs.declared.fault.NetFault.the-variants.{SourceWaitingFull}
 use Rattle.ordered.specs.Orders.{allPass, placed}
 use Rattle.ordered.proofs.Rises.{all-placed}
-use Rattle.ports.specs.Ports.{portView, misfits, admitFault}
+use Rattle.ports.specs.Ports.{portView, misfits, admitFault, Became, Admits}
 use Rattle.ports.specs.declared.port.Port.{Port}
 use Rattle.std.specs.declared.option.Option.the-variants.{None}
 
@@ -71,6 +69,11 @@ pub admit-none : (p : Port) (source : ℕ) (x : Record) → source < 8 → misfi
 admit-none p source x low fits = cond-false (ltb 7 source) _ _ (le-ltb 7 source (omega arith)) ∙ cond-false (misfits (p .own) source x (portView p .waiting)) _ _ fits
 
 -- what waits is addressed to the port still, when a notice that is tries to join
-pub addressed-joined : {U : Type 0} (own : ℕ) (d : Decided) (old new : Waiting) (r : Result U NetFault) → Cases r (λ _. (crowded (d .stamp .port) (waitingOf old) ≡ false) × (waitingOf new ≡ placed decidedBefore d (waitingOf old))) (λ f. (f ≡ SourceWaitingFull) × (crowded (d .stamp .port) (waitingOf old) ≡ true) × (new ≡ old)) → allPass (goesTo own) (waitingOf old) ≡ true → goesTo own d ≡ true → allPass (goesTo own) (waitingOf new) ≡ true
+pub addressed-joined : {U : Type 0} (own : ℕ) (d : Decided) (old new : Waiting) (r : Result U NetFault) → Joins old new d r → allPass (goesTo own) (waitingOf old) ≡ true → goesTo own d ≡ true → allPass (goesTo own) (waitingOf new) ≡ true
 addressed-joined own d old new (Ok u) e all here = ap (allPass (goesTo own)) (e .1) ∙ all-placed decidedBefore d (goesTo own) (waitingOf old) all here
 addressed-joined own d old new (Err f) e all here = ap (λ w. allPass (goesTo own) (waitingOf w)) (e .2) ∙ all
+
+-- a notice for which there is a place does join
+pub admits-joined : {U : Type 0} (old new : Port) (source : ℕ) (x : Record) (d : Decided) (w : Waiting) (r : Result U NetFault) → crowded (d .stamp .port) (waitingOf (old .waiting)) ≡ false → Joins (old .waiting) w d r → (waitingOf w ≡ placed decidedBefore d (waitingOf (old .waiting)) → (admitFault old source x ≡ None) × Became old new (afterFetch source x (portView old))) → Admits old new source x r
+admits-joined old new source x d w (Ok u) free j then = then (j .1)
+admits-joined old new source x d w (Err f) free j then = absurd (both-ways _ free (j .1))

@@ -1,12 +1,14 @@
--- What a port means. Assumes nothing.
+-- What a port means, what it refuses, and what each call makes of it. Assumes nothing.
 use mathlib.Core.Path.{_≡_}
-use mathlib.Core.Bool.{Bool, false, not, _||_}
+use mathlib.Core.Bool.{Bool, true, false, not, _&&_, _||_}
 use mathlib.Core.List.{List, []}
-use Prim.Native.Nat.{ℕ}
+use Prim.Native.Nat.{ℕ, _+_}
 use lib.Dec.{eqb, ltb, leb}
 use lib.ListN.{length, getD}
 use Rattle.std.specs.declared.option.Option.{Option}
 use Rattle.std.specs.declared.option.Option.the-variants.{None, Some}
+use Rattle.std.specs.declared.result.Result.{Result}
+use Rattle.std.specs.declared.result.Result.the-variants.{Err, Ok}
 use Rattle.records.specs.declared.mask.Mask.{Mask}
 use Rattle.records.specs.declared.notice.Action.{Action}
 use Rattle.records.specs.declared.notice.Action.the-variants.{Take, Leave}
@@ -14,12 +16,19 @@ use Rattle.records.specs.declared.notice.Decided.{Decided}
 use Rattle.records.specs.declared.notice.Record.{Record}
 use Rattle.records.specs.declared.notice.Record.the-variants.{Notice as Carries, Empty}
 use Rattle.records.specs.declared.fault.NetFault.{NetFault}
-use Rattle.records.specs.declared.fault.NetFault.the-variants.{NoSuchPort, NoSuchDispatcher, CountUsedUp, UndecidedFull, SourceWaitingFull}
+use Rattle.records.specs.declared.fault.NetFault.the-variants.{NoSuchPort, NoSuchDispatcher, CountUsedUp, UndecidedFull, WrongNumber, WrongCut, StepUsedUp, OwnWaitingFull, SourceWaitingFull}
+use Rattle.records.specs.declared.stamp.Pair.{Pair}
+use Rattle.batches.specs.declared.batch.Batch.{Batch}
+use Rattle.batches.specs.Stampings.{batchOf}
 use Rattle.model.specs.Views.{PortView}
-use Rattle.model.specs.Batches.{goesTo, countFrom}
-use Rattle.model.specs.Refusals.{_when_else_}
-use Rattle.model.specs.Calls.{HandIn}
-use Rattle.model.specs.Steps.{afterRelease}
+use Rattle.model.specs.Stamping.{nextPair, stepFits, floorAfter, stampable}
+use Rattle.model.specs.Holding.{holds}
+use Rattle.model.specs.Lists.{maskOf}
+use Rattle.records.specs.Masks.{named}
+use Rattle.model.specs.Batches.{goesTo, sentTo, countFrom}
+use Rattle.model.specs.Refusals.{_when_else_, cutsFit}
+use Rattle.model.specs.Calls.{HandIn, Decide, decision}
+use Rattle.model.specs.Steps.{afterHandIn, afterDecide, afterFetch, afterRelease}
 use Rattle.ports.specs.declared.port.Port.{Port}
 use Rattle.ports.specs.Held.{undecidedOf, waitingOf, Lowest}
 
@@ -41,23 +50,7 @@ pub record Became (old new : Port) (v : PortView) : Type 0 where
   pub own : new .own ≡ old .own
   pub view : portView new ≡ v
 
--- the lowest waiting notice was released; where none waits, nothing changed
-abbrev pub Released : Port → Port → Option Decided → Type 0
-Released old new None = (portView old .waiting ≡ []) × (new ≡ old)
-Released old new (Some n) = Lowest (portView old .waiting) (Some n) × Became old new (afterRelease n (portView old))
-
--- a notice that cannot join what waits at port own as one of the source: eight of that source wait, or it is not of that source,
--- or not addressed to the port
-abbrev pub misfits : ℕ → ℕ → Record → List Decided → Bool
-misfits own source (Carries d) ds = not (eqb (d .stamp .port) source) || (not (goesTo own d) || leb 8 (countFrom source ds))
-misfits own source (Empty s) ds = false
-
--- when a fetched record is refused
-abbrev pub admitFault : Port → ℕ → Record → Option NetFault
-admitFault p source x =
-    NoSuchPort when ltb 7 source else
-    SourceWaitingFull when misfits (p .own) source x (portView p .waiting) else
-    None
+-- HAND IN
 
 -- 1 take, 2 leave
 abbrev pub actionNumber : Action → ℕ
@@ -75,3 +68,77 @@ handingFault o dispatcher =
     CountUsedUp when leb 65535 (o .given dispatcher) else
     UndecidedFull when leb 16 (length (o .undecided)) else
     None
+
+-- the answer is his next count, and the notice is among the undecided; or it was refused, and nothing changed
+abbrev pub HandsIn : Port → Port → HandIn → Result ℕ NetFault → Type 0
+HandsIn old new x (Ok count) = (handingFault (portView old) (x .dispatcher) ≡ None) × (count ≡ portView old .given (x .dispatcher) + 1) × Became old new (afterHandIn x (portView old))
+HandsIn old new x (Err f) = (handingFault (portView old) (x .dispatcher) ≡ Some f) × (new ≡ old)
+
+-- DECIDE
+
+-- what the port is asked to decide; the working list is the net's
+abbrev pub deciding : Port → ℕ → List ℕ → Decide
+deciding p number cuts = record { port = p .own; number = number; cuts = cuts; places = 16 }
+
+-- when the port itself refuses to decide; the net then looks for room on its lines
+abbrev pub decidingFault : PortView → Decide → Option NetFault
+decidingFault o x =
+    let ds : List Decided = decision o x in
+    WrongNumber when not (eqb (x .number) (o .number)) || ltb 65535 (x .number) else
+    WrongCut when not (cutsFit o (x .cuts)) else
+    StepUsedUp when not (stampable ds) else
+    OwnWaitingFull when ltb 8 (countFrom (x .port) (o .waiting) + length (sentTo (x .port) ds)) else
+    None
+
+-- the batch is what the port decides, and its floor is the one that this leaves
+pub record Planned (o : PortView) (x : Decide) (b : Batch) : Type 0 where
+  pub accepted : decidingFault o x ≡ None
+  pub notices : batchOf b ≡ decision o x
+  pub floor : b .floor ≡ floorAfter (o .floor) (decision o x)
+
+abbrev pub Plans : Port → Decide → Result Batch NetFault → Type 0
+Plans p x (Ok b) = Planned (portView p) x b
+Plans p x (Err f) = decidingFault (portView p) x ≡ Some f
+
+-- the batch is decided; or it was refused, and nothing changed
+abbrev pub Decides : Port → Port → Decide → Result Batch NetFault → Type 0
+Decides old new x (Ok b) = Planned (portView old) x b × Became old new (afterDecide x (portView old))
+Decides old new x (Err f) = (decidingFault (portView old) x ≡ Some f) × (new ≡ old)
+
+-- CLEAR
+
+-- the pair that the port stamps as a clearance at this reading; or its step would be above 65,535
+abbrev pub Clears : PortView → ℕ → Result Pair NetFault → Type 0
+Clears o reading (Ok p) = (p ≡ nextPair (o .floor) reading) × (stepFits p ≡ true)
+Clears o reading (Err f) = (f ≡ StepUsedUp) × (stepFits (nextPair (o .floor) reading) ≡ false)
+
+-- FETCH
+
+-- a notice that cannot join what waits at port own as one of the source: eight of that source wait, or it is not of that source,
+-- or not addressed to the port
+abbrev pub misfits : ℕ → ℕ → Record → List Decided → Bool
+misfits own source (Carries d) ds = not (eqb (d .stamp .port) source) || (not (goesTo own d) || leb 8 (countFrom source ds))
+misfits own source (Empty s) ds = false
+
+-- when a fetched record is refused
+abbrev pub admitFault : Port → ℕ → Record → Option NetFault
+admitFault p source x =
+    NoSuchPort when ltb 7 source else
+    SourceWaitingFull when misfits (p .own) source x (portView p .waiting) else
+    None
+
+-- the record of the source is fetched; or it was refused, and nothing changed
+abbrev pub Admits : {U : Type 0} → Port → Port → ℕ → Record → Result U NetFault → Type 0
+Admits old new source x (Ok u) = (admitFault old source x ≡ None) × Became old new (afterFetch source x (portView old))
+Admits old new source x (Err f) = (admitFault old source x ≡ Some f) × (new ≡ old)
+
+-- RELEASE
+
+-- those of the senders whose clearance holds a notice of this pair
+abbrev pub holdersAmong : ℕ → PortView → Pair → ℕ
+holdersAmong senders o pair = maskOf 8 (λ f. named senders f && holds (o .clearance f) pair)
+
+-- the lowest waiting notice is released; where none waits, nothing changed
+abbrev pub Releases : Port → Port → Option Decided → Type 0
+Releases old new None = (portView old .waiting ≡ []) × (new ≡ old)
+Releases old new (Some n) = Lowest (portView old .waiting) (Some n) × Became old new (afterRelease n (portView old))

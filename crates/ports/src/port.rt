@@ -10,11 +10,12 @@ use crate::undecided::Undecided;
 use crate::waiting::Waiting;
 use records::stamp::Pair;
 
-pub mod handing; // a dispatcher hands a notice in
-pub mod releasing; // who holds the lowest waiting notice, and its release
 pub mod opening; // a fresh port
-pub mod admitting; // a fetched record
+pub mod handing; // a dispatcher hands a notice in
+pub mod deciding; // a batch is planned, and decided
 pub mod clearing; // the pair of a clearance, and the floor that it leaves
+pub mod admitting; // a fetched record
+pub mod releasing; // who holds the lowest waiting notice, and its release
 
 // Port `own`, with the notices that are undecided and those that wait here. For each of its four dispatchers: the last count
 // that he was given, the last that was decided, and the last clock. `number` is that of the next batch, 65,536 when all are

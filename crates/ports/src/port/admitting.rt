@@ -1,8 +1,6 @@
 // A fetched record.
-ghost use Rattle.model.specs.Steps.{pairOf, afterFetch};
-ghost use Rattle.ports.specs.Ports.{portView, Became, misfits, admitFault};
-ghost use Rattle.std.specs.Results.{Cases};
-ghost use Rattle.std.specs.declared.option.Option.the-variants.{None, Some};
+ghost use Rattle.model.specs.Steps.{pairOf};
+ghost use Rattle.ports.specs.Ports.{portView, misfits, Admits};
 ghost use mathlib.Core.Bool.{not};
 ghost use mathlib.Core.Path.{_≡_};
 use crate::port::Port;
@@ -21,7 +19,7 @@ fn pair_of(record: Record) -> Pair
 
 impl Port {
     // Whether the port can take this record from the source.
-    pub fn takes(&self, source: u8, record: Record) -> bool
+    fn takes(&self, source: u8, record: Record) -> bool
         ensures { λ r. ⌜ r ≡ not (misfits (now (self .entry) .own) source «record» (portView (now (self .entry)) .waiting)) ⌝ }
     {
         match record {
@@ -38,7 +36,7 @@ impl Port {
     // of that source wait. It would be refused as well where it is of another source or not addressed to this port, which on
     // a net that was opened, and then only called, no line carries.
     pub fn admit(&mut self, source: u8, record: Record) -> Result<(), NetFault>
-        ensures { λ r. ⌜ Cases r (λ _. (admitFault (now (self .entry)) source «record» ≡ None) × Became (now (self .entry)) (now (self .exit)) (afterFetch source «record» (portView (now (self .entry))))) (λ f. (admitFault (now (self .entry)) source «record» ≡ Some f) × (now (self .exit) ≡ now (self .entry))) ⌝ }
+        ensures { λ r. ⌜ Admits (now (self .entry)) (now (self .exit)) source «record» r ⌝ }
     {
         if source > 7 {
             return Err(NetFault::NoSuchPort);

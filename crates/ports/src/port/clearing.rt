@@ -1,11 +1,6 @@
 // The pair of a clearance, and the floor that it leaves.
-ghost use Rattle.model.specs.Stamping.{nextPair, stepFits};
 ghost use Rattle.model.specs.Steps.{afterClear};
-ghost use Rattle.ports.specs.Ports.{portView, Became};
-ghost use Rattle.records.specs.declared.fault.NetFault.the-variants.{StepUsedUp};
-ghost use Rattle.std.specs.Results.{Cases};
-ghost use mathlib.Core.Bool.{true, false};
-ghost use mathlib.Core.Path.{_≡_};
+ghost use Rattle.ports.specs.Ports.{portView, Became, Clears};
 use crate::port::Port;
 use batches::batch::stamping::next_pair;
 use records::fault::NetFault;
@@ -14,7 +9,7 @@ use records::stamp::Pair;
 impl Port {
     // The pair that the port would stamp at this reading.
     pub fn clearance(&self, reading: u32) -> Result<Pair, NetFault>
-        ensures { λ r. ⌜ Cases r (λ p. (p ≡ nextPair (portView (now (self .entry)) .floor) reading) × (stepFits p ≡ true)) (λ f. (f ≡ StepUsedUp) × (stepFits (nextPair (portView (now (self .entry)) .floor) reading) ≡ false)) ⌝ }
+        ensures { λ r. ⌜ Clears (portView (now (self .entry))) reading r ⌝ }
     {
         match next_pair(self.floor, reading) {
             Some(pair) => Ok(pair),

@@ -1,10 +1,5 @@
 // A dispatcher hands a notice in.
-ghost use Prim.Native.Nat.{_+_};
-ghost use Rattle.model.specs.Steps.{afterHandIn};
-ghost use Rattle.ports.specs.Ports.{portView, Became, handingIn, handingFault};
-ghost use Rattle.std.specs.Results.{Cases};
-ghost use Rattle.std.specs.declared.option.Option.the-variants.{None, Some};
-ghost use mathlib.Core.Path.{_≡_};
+ghost use Rattle.ports.specs.Ports.{handingIn, HandsIn};
 use crate::port::Port;
 use records::fault::NetFault;
 use records::mask::Mask;
@@ -24,7 +19,7 @@ impl Port {
         action: Action,
         vessel: u16,
     ) -> Result<u16, NetFault>
-        ensures { λ r. ⌜ Cases r (λ count. (handingFault (portView (now (self .entry))) dispatcher ≡ None) × (count ≡ portView (now (self .entry)) .given dispatcher + 1) × Became (now (self .entry)) (now (self .exit)) (afterHandIn (handingIn (now (self .entry)) dispatcher reading to home berth action vessel) (portView (now (self .entry))))) (λ f. (handingFault (portView (now (self .entry))) dispatcher ≡ Some f) × (now (self .exit) ≡ now (self .entry))) ⌝ }
+        ensures { λ r. ⌜ HandsIn (now (self .entry)) (now (self .exit)) (handingIn (now (self .entry)) dispatcher reading to home berth action vessel) r ⌝ }
     {
         if dispatcher > 3 {
             return Err(NetFault::NoSuchDispatcher);

@@ -1,17 +1,12 @@
 // Who holds the lowest waiting notice, and its release.
 ghost use Rattle.model.specs.Holding.{holds};
-ghost use Rattle.model.specs.Lists.{maskOf};
 ghost use Rattle.model.specs.Stamping.{raised};
-ghost use Rattle.model.specs.Steps.{afterRelease};
 ghost use Rattle.ports.specs.Held.{Lowest};
-ghost use Rattle.ports.specs.Ports.{portView, Released};
-ghost use Rattle.records.specs.Reaching.{sends};
-ghost use mathlib.Core.Bool.{_&&_};
+ghost use Rattle.ports.specs.Ports.{portView, holdersAmong, Releases};
 ghost use mathlib.Core.Path.{_≡_};
 use crate::port::Port;
 use records::mask::Mask;
 use records::notice::Decided;
-use records::reach::Reach;
 use records::stamp::Pair;
 
 // Whether a source of this clearance holds a notice of this pair.
@@ -42,13 +37,13 @@ impl Port {
         self.waiting.lowest()
     }
 
-    // Those who can send here and hold a notice of this pair: their clearance is missing, or below it.
-    pub fn holders(&self, reach: &Reach, pair: Pair) -> Mask
-        ensures { λ r. ⌜ r .bits ≡ maskOf 8 (λ f. sends (now (reach .entry) .masks) f (now (self .entry) .own) && holds (portView (now (self .entry)) .clearance f) pair) ⌝ }
+    // Those of the senders who hold a notice of this pair: their clearance is missing, or below it.
+    pub fn holders(&self, senders: Mask, pair: Pair) -> Mask
+        ensures { λ r. ⌜ r .bits ≡ holdersAmong (senders .bits) (portView (now (self .entry))) pair ⌝ }
     {
         let mut bits = 0;
         for f in 0..8u8 {
-            if reach.sends(f, self.own) & holds(self.clearances[f as usize], pair) {
+            if senders.names(f) & holds(self.clearances[f as usize], pair) {
                 bits += 1u8 << f;
             }
         }
@@ -57,7 +52,7 @@ impl Port {
 
     // The lowest waiting notice leaves, and the floor rises to its pair if that is higher.
     pub fn release(&mut self) -> Option<Decided>
-        ensures { λ r. ⌜ Released (now (self .entry)) (now (self .exit)) r ⌝ }
+        ensures { λ r. ⌜ Releases (now (self .entry)) (now (self .exit)) r ⌝ }
     {
         let Some(notice) = self.waiting.lowest() else {
             return None;

@@ -1,14 +1,10 @@
 // Adding a notice, and what a batch leaves.
-ghost use Prim.Native.Nat.{_≤_};
-ghost use Rattle.ordered.specs.Orders.{placed};
-ghost use Rattle.ports.specs.Held.{undecidedOf};
-ghost use Rattle.records.specs.Keys.{handedBefore};
-ghost use Rattle.records.specs.declared.fault.NetFault.the-variants.{UndecidedFull};
-ghost use Rattle.std.specs.Results.{Cases};
-ghost use lib.ListN.{length};
+ghost use Rattle.model.specs.Batches.{left};
+ghost use Rattle.ports.specs.Held.{undecidedOf, Adds};
 ghost use mathlib.Core.List.{[]};
 ghost use mathlib.Core.Path.{_≡_};
 use crate::undecided::Undecided;
+use batches::keeping::keep_left;
 use ordered::insert;
 use records::entries::HandedEntry;
 use records::fault::NetFault;
@@ -51,7 +47,7 @@ impl Undecided {
 
     // Puts the notice in its place; where 16 are undecided it is refused.
     pub fn add(&mut self, notice: Handed) -> Result<(), NetFault>
-        ensures { λ r. ⌜ Cases r (λ _. undecidedOf (now (self .exit)) ≡ placed handedBefore notice (undecidedOf (now (self .entry)))) (λ f. (f ≡ UndecidedFull) × (16 ≤ length (undecidedOf (now (self .entry)))) × (now (self .exit) ≡ now (self .entry))) ⌝ }
+        ensures { λ r. ⌜ Adds (now (self .entry)) (now (self .exit)) notice r ⌝ }
     {
         if self.len == 16 {
             return Err(NetFault::UndecidedFull);
@@ -59,5 +55,13 @@ impl Undecided {
         let _ = insert(&mut self.notices, self.len, notice);
         self.len += 1;
         Ok(())
+    }
+
+    // The batch leaves: only the notices above their dispatchers' cuts stay.
+    pub fn keep(&mut self, cuts: &[u16; 4])
+        ensures { λ _. ⌜ undecidedOf (now (self .exit)) ≡ left (now (cuts .entry)) (undecidedOf (now (self .entry))) ⌝ }
+    {
+        let len = self.len;
+        self.len = keep_left(&mut self.notices[0..len], cuts);
     }
 }

@@ -1,17 +1,12 @@
 // Joining, looking at the lowest, and taking it.
 ghost use Rattle.model.specs.Batches.{countFrom};
 ghost use Rattle.model.specs.Lists.{rest};
-ghost use Rattle.ordered.specs.Orders.{placed};
-ghost use Rattle.ports.specs.Held.{waitingOf, crowded, Lowest};
-ghost use Rattle.records.specs.Keys.{decidedBefore};
-ghost use Rattle.records.specs.declared.fault.NetFault.the-variants.{SourceWaitingFull};
-ghost use Rattle.std.specs.Results.{Cases};
+ghost use Rattle.ports.specs.Held.{waitingOf, Joins, Lowest};
 ghost use Rattle.std.specs.declared.option.Option.the-variants.{None};
-ghost use mathlib.Core.Bool.{true, false};
 ghost use mathlib.Core.List.{[]};
 ghost use mathlib.Core.Path.{_≡_};
-use batches::counting::count_from;
 use crate::waiting::Waiting;
+use batches::counting::count_from;
 use ordered::insert;
 use ordered::take_first;
 use records::entries::DecidedEntry;
@@ -67,7 +62,7 @@ impl Waiting {
 
     // Puts the notice in its place. Where eight of its port wait, or it is stamped by a port that there is not, it is refused.
     pub fn add(&mut self, notice: Decided) -> Result<(), NetFault>
-        ensures { λ r. ⌜ Cases r (λ _. (crowded (notice .stamp .port) (waitingOf (now (self .entry))) ≡ false) × (waitingOf (now (self .exit)) ≡ placed decidedBefore notice (waitingOf (now (self .entry))))) (λ f. (f ≡ SourceWaitingFull) × (crowded (notice .stamp .port) (waitingOf (now (self .entry))) ≡ true) × (now (self .exit) ≡ now (self .entry))) ⌝ }
+        ensures { λ r. ⌜ Joins (now (self .entry)) (now (self .exit)) notice r ⌝ }
     {
         let source = notice.stamp.port;
         if source > 7 || self.count_from(source) >= 8 {

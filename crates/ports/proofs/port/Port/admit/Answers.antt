@@ -3,8 +3,7 @@ use mathlib.Core.Bool.{Bool, true, false, not}
 use Prim.Native.Nat.{ℕ}
 use native.Mathlib.Omega.{arith}
 use Rattle.std.proofs.shelf.Lists.{length-set}
-use Rattle.std.proofs.shelf.Results.{cases-weaker}
-use Rattle.std.proofs.shelf.Tests.{both-ways, not-true}
+use Rattle.std.proofs.shelf.Tests.{not-true}
 use Rattle.std.specs.declared.option.Option.the-variants.{Some, None}
 use Rattle.records.specs.declared.notice.Decided.{Decided}
 use Rattle.records.specs.declared.notice.Record.{Record}
@@ -13,7 +12,7 @@ use Rattle.model.specs.Steps.{changed, joined}
 use Rattle.ports.specs.Held.{waitingOf}
 use Rattle.ports.specs.Ports.{misfits, portView}
 use Rattle.ports.specs.declared.port.Port.{Port}
-use Rattle.ports.proofs.Views.{view-same, set-changed, fits-here, fits-room, admit-none, addressed-joined}
+use Rattle.ports.proofs.Views.{view-same, set-changed, fits-here, fits-room, admit-none, addressed-joined, admits-joined}
 use Rattle.ports.proofs.port.Port.admit.Needs as need
 
 -- what the port takes does not misfit
@@ -38,11 +37,13 @@ returns-in-Notice c =
     let source = c .args .source in
     let none = taken p source (c .args .record) (c .takes .result) (c .takes .ensures) (c .if-not-takes .left) in
     let fits = noticed p source (c .args .record) d (c .in-Notice .is) none in
-    cases-weaker (c .add .result) (c .add .ensures)
-    (λ u e. (admit-none p source (c .args .record) (omega arith) none, record {
-      own = refl;
-      view = view-same _ _ refl refl refl refl refl refl
-        (set-changed (p .clearances) source (Some (c .pair-of .result)) None (omega (arith, p .sources)) ∙ ap (λ x. changed source (Some x) (portView p .clearance)) (c .pair-of .ensures))
-        (e .1 ∙ ap (λ x. joined x (waitingOf (p .waiting))) (sym (c .in-Notice .is)));
-    }))
-    (λ f e. absurd (both-ways _ (fits-room (p .own) source d (waitingOf (p .waiting)) fits (omega arith)) (e .1)))
+    admits-joined p _ source (c .args .record) d (c .add .last .self) (c .add .result) (fits-room (p .own) source d (waitingOf (p .waiting)) fits (omega arith)) (c .add .ensures)
+    (λ e. (
+      admit-none p source (c .args .record) (omega arith) none,
+      record {
+        own = refl;
+        view = view-same _ _ refl refl refl refl refl refl
+            (set-changed (p .clearances) source (Some (c .pair-of .result)) None (omega (arith, p .sources)) ∙ ap (λ x. changed source (Some x) (portView p .clearance)) (c .pair-of .ensures))
+            (e ∙ ap (λ x. joined x (waitingOf (p .waiting))) (sym (c .in-Notice .is)));
+      },
+    ))

@@ -18,13 +18,16 @@ returns c =
     let few : length (undecidedOf (p .undecided)) < 16 = omega (arith, ap length (c .list .ensures)) in
     let free : getD (p .given) d 0 < 65535 = omega arith in
     let x = made p d (c .max-clock .result) (c .args .to) (c .args .home) (c .args .berth) (c .args .action) (c .args .vessel) in
-    let is = made-is p d (c .args .reading) (c .max-clock .result) (c .args .to) (c .args .home) (c .args .berth) (c .args .action) (c .args .vessel) (c .max-clock .ensures) in
-    (handing-none (portView p) d (omega arith) free few, refl, record {
-      own = refl;
-      view = view-same _ _
-        (added x (p .undecided) (c .add .last .self) (c .add .result) few (c .add .ensures) ∙ ap (λ y. placed handedBefore y (undecidedOf (p .undecided))) is)
-        (set-changed (p .given) d _ 0 (omega (arith, p .givens)))
-        refl
-        (set-changed (p .clocks) d _ 0 (omega (arith, p .lasts)) ∙ ap (λ n. changed d n (portView p .clock)) (c .max-clock .ensures))
-        refl refl refl refl;
-    })
+    let is = made-is p d (c .args .reading) (c .max-clock .result) (c .args .to) (c .args .home) (c .args .berth) (c .args .action) (c .args .vessel) (c .max-clock .ensures) in (
+      handing-none (portView p) d (omega arith) free few,
+      refl,
+      record {
+        own = refl;
+        view = view-same _ _
+            (added x (p .undecided) (c .add .last .self) (c .add .result) few (c .add .ensures) ∙ ap (λ y. placed handedBefore y (undecidedOf (p .undecided))) is)
+            (set-changed (p .given) d _ 0 (omega (arith, p .givens)))
+            refl
+            (set-changed (p .clocks) d _ 0 (omega (arith, p .lasts)) ∙ ap (λ n. changed d n (portView p .clock)) (c .max-clock .ensures))
+            refl refl refl refl;
+      },
+    )
