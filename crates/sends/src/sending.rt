@@ -57,6 +57,7 @@ fn put_copies<W: Wire>(wire: &mut W, port: u8, notice: Decided)
 {
     for to in 0..8u8 {
         if is_copied(notice, port, to) {
+            // there is room: the put is not refused
             let _ = wire.put(port, to, Record::Notice(notice));
         }
     }
