@@ -10,7 +10,6 @@ use lib.ListN.{length, getD, set, replicate}
 use Rattle.std.specs.declared.option.Option.{Option}
 use Rattle.std.specs.declared.option.Option.the-variants.{Some, None}
 use Rattle.std.proofs.shelf.Lists.{length-map, length-replicate, getD-replicate, getD-map, map-set, getD-set-same, getD-set-other}
-use Rattle.std.proofs.shelf.Edits.{fill-by-more}
 use Rattle.std.proofs.shelf.Tests.{cases-bool, cond-true, cond-false, cond-both}
 use Rattle.records.specs.declared.notice.Action.{Action}
 use Rattle.boards.specs.declared.outcome.Outcome.{Outcome}
@@ -45,10 +44,6 @@ module _ {X : Type 0} (means : X → Vessels) where
   -- an array whose every element means the empty list shows none
   pub all-empty : (xs : List X) → ((i : ℕ) → i < 1024 → getD (map means xs) i [] ≡ []) → Emptied (shownBy means xs)
   all-empty xs each p q k = cond-both (isBerth p q k) (getD (map means xs) (p * 128 + q * 16 + k) []) [] (λ l. l ≡ []) (λ t. let b = berth-bounds p q k t in each (p * 128 + q * 16 + k) (omega arith)) (λ _. refl)
-
-  pub empty-more : (xs : List X) (i : ℕ) (x : X) → i < length xs → means x ≡ [] → ((k : ℕ) → k < i → getD (map means xs) k [] ≡ []) → (k : ℕ) → k < i + 1 → getD (map means (set xs i x)) k [] ≡ []
-  empty-more xs i x lt e below k l =
-      ap (λ l. getD l k []) (map-set means xs i x ∙ ap (set (map means xs) i) e) ∙ fill-by-more (λ _. []) (map means xs) i [] (omega (arith, length-map xs means)) below k l
 
   pub empty-new : (x : X) → means x ≡ [] → Emptied (shownBy means (replicate 1024 x))
   empty-new x e = all-empty (replicate 1024 x) (λ k lt. getD-map means (replicate 1024 x) k x [] (omega (arith, length-replicate 1024 x)) ∙ ap means (getD-replicate 1024 k x x lt) ∙ e)

@@ -2,12 +2,12 @@
 ghost use Prim.Native.Nat.{_<_};
 ghost use Rattle.boards.specs.Kinds.{firstCome, atMost};
 ghost use Rattle.boards.specs.Places.{alone, shownBy};
-ghost use Rattle.boards.specs.Shown.{Emptied};
+ghost use Rattle.boards.specs.Shown.{Applied, Emptied};
 ghost use mathlib.Core.Path.{_≡_};
 use crate::board::Board;
 use crate::outcome::Outcome;
 use crate::place::LISTS;
-use crate::place::place_of;
+use crate::place::Spot;
 use records::notice::Action;
 
 // The vessel alongside at each berth, 0 where there is none.
@@ -50,13 +50,22 @@ impl FirstCome {
     }
 
     // The vessel alongside, and 0 where there is none.
-    fn first(&self, watching: u8, home: u8, berth: u8) -> u16
-        ensures { λ r. ⌜ alone r ≡ shownBy alone (now (self .entry) .alongside) watching home berth ⌝ }
+    fn first(&self, spot: Spot) -> u16
+        ensures { λ r. ⌜ alone r ≡ shownBy alone (now (self .entry) .alongside) (spot .watching) (spot .home) (spot .berth) ⌝ }
     {
-        let Some(at) = place_of(watching, home, berth) else {
+        let Some(at) = spot.index() else {
             return 0;
         };
         self.alongside[at]
+    }
+
+    fn turn_at(&mut self, spot: Spot, action: Action, vessel: u16) -> Outcome
+        ensures { λ r. ⌜ Applied firstCome (shownBy alone (now (self .entry) .alongside)) (shownBy alone (now (self .exit) .alongside)) (spot .watching) (spot .home) (spot .berth) action vessel r ⌝ }
+    {
+        match spot.index() {
+            Some(at) if vessel != 0 => turn(&mut self.alongside[at], action, vessel),
+            _ => Outcome::Clash,
+        }
     }
 }
 
@@ -68,26 +77,23 @@ pub impl Board for FirstCome as FirstComeBoard {
     ghost holds = { atMost 1 };
 
     fn apply(&mut self, watching: u8, home: u8, berth: u8, action: Action, vessel: u16) -> Outcome {
-        match place_of(watching, home, berth) {
-            Some(at) if vessel != 0 => turn(&mut self.alongside[at], action, vessel),
-            _ => Outcome::Clash,
-        }
+        self.turn_at(Spot::new(watching, home, berth), action, vessel)
     }
 
     fn len(&self, watching: u8, home: u8, berth: u8) -> usize {
-        if self.first(watching, home, berth) == 0 {
-            0
-        } else {
-            1
-        }
+        let first = self.first(Spot::new(watching, home, berth));
+        if first == 0 { 0 } else { 1 }
     }
 
     fn vessel_at(&self, watching: u8, home: u8, berth: u8, place: usize) -> u16 {
-        let first = self.first(watching, home, berth);
-        if place == 0 { first } else { 0 }
+        if place == 0 {
+            self.first(Spot::new(watching, home, berth))
+        } else {
+            0
+        }
     }
 
     fn empty(&mut self) {
-        self.alongside.fill(0);
+        *self = FirstCome::new();
     }
 }

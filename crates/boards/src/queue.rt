@@ -2,13 +2,13 @@
 ghost use Rattle.boards.specs.Berths.{vesselsOf};
 ghost use Rattle.boards.specs.Kinds.{queue, atMost};
 ghost use Rattle.boards.specs.Places.{shownBy};
-ghost use Rattle.boards.specs.Shown.{Emptied};
+ghost use Rattle.boards.specs.Shown.{Applied, Emptied};
 ghost use mathlib.Core.Path.{_≡_};
 use crate::berth::Berth;
 use crate::board::Board;
 use crate::outcome::Outcome;
 use crate::place::LISTS;
-use crate::place::place_of;
+use crate::place::Spot;
 use records::notice::Action;
 
 #[derive(Drop)]
@@ -25,14 +25,23 @@ impl Queue {
         }
     }
 
-    // The vessels for a watching port at a berth of a home port; none where there is no such berth.
-    fn berth(&self, watching: u8, home: u8, berth: u8) -> Berth
-        ensures { λ r. ⌜ vesselsOf r ≡ shownBy vesselsOf (now (self .entry) .berths) watching home berth ⌝ }
+    // The vessels at a berth; none where there is no such berth.
+    fn berth(&self, spot: Spot) -> Berth
+        ensures { λ r. ⌜ vesselsOf r ≡ shownBy vesselsOf (now (self .entry) .berths) (spot .watching) (spot .home) (spot .berth) ⌝ }
     {
-        let Some(at) = place_of(watching, home, berth) else {
+        let Some(at) = spot.index() else {
             return Berth::new();
         };
         self.berths[at]
+    }
+
+    fn turn_at(&mut self, spot: Spot, action: Action, vessel: u16) -> Outcome
+        ensures { λ r. ⌜ Applied queue (shownBy vesselsOf (now (self .entry) .berths)) (shownBy vesselsOf (now (self .exit) .berths)) (spot .watching) (spot .home) (spot .berth) action vessel r ⌝ }
+    {
+        match spot.index() {
+            Some(at) if vessel != 0 => self.berths[at].turn(action, vessel),
+            _ => Outcome::Clash,
+        }
     }
 }
 
@@ -44,23 +53,18 @@ pub impl Board for Queue as QueueBoard {
     ghost holds = { atMost 4 };
 
     fn apply(&mut self, watching: u8, home: u8, berth: u8, action: Action, vessel: u16) -> Outcome {
-        match place_of(watching, home, berth) {
-            Some(at) if vessel != 0 => self.berths[at].turn(action, vessel),
-            _ => Outcome::Clash,
-        }
+        self.turn_at(Spot::new(watching, home, berth), action, vessel)
     }
 
     fn len(&self, watching: u8, home: u8, berth: u8) -> usize {
-        self.berth(watching, home, berth).len()
+        self.berth(Spot::new(watching, home, berth)).len()
     }
 
     fn vessel_at(&self, watching: u8, home: u8, berth: u8, place: usize) -> u16 {
-        self.berth(watching, home, berth).at(place)
+        self.berth(Spot::new(watching, home, berth)).at(place)
     }
 
     fn empty(&mut self) {
-        for berth in self.berths.iter_mut() {
-            berth.clear();
-        }
+        *self = Queue::new();
     }
 }

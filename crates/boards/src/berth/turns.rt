@@ -66,12 +66,6 @@ impl Berth {
         }
     }
 
-    pub fn clear(&mut self)
-        ensures { λ _. ⌜ vesselsOf (now (self .exit)) ≡ [] ⌝ }
-    {
-        self.len = 0;
-    }
-
     fn take(&mut self, vessel: u16) -> Outcome
         requires { ⌜ 0 < vessel ⌝ }
         ensures list { λ r. ⌜ vesselsOf (now (self .exit)) ≡ takenLast (vesselsOf (now (self .entry))) vessel .list ⌝ }
