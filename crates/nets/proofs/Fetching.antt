@@ -8,7 +8,6 @@ use lib.Dec.{eqb, leb, ltb}
 use Rattle.std.specs.declared.option.Option.{Option}
 use Rattle.std.specs.declared.option.Option.the-variants.{None, Some}
 use Rattle.std.proofs.shelf.Tests.{eq-eqb, ne-eqb, le-ltb, cond-true, cond-false}
-use Rattle.std.specs.Results.{Cases}
 use Rattle.std.specs.declared.result.Result.{Result}
 use Rattle.std.specs.declared.result.Result.the-variants.{Ok, Err}
 use Rattle.records.specs.declared.fault.NetFault.{NetFault}
@@ -26,7 +25,7 @@ use Rattle.model.specs.Steps.{afterFetch}
 use Rattle.model.specs.Views.{Table, View, outside, sends}
 use Rattle.model.proofs.Sound.{whole}
 use Rattle.ports.specs.declared.port.Port.{Port}
-use Rattle.ports.specs.Ports.{portView, misfits, admitFault, Became}
+use Rattle.ports.specs.Ports.{portView, misfits, admitFault, Admits, Became}
 use Rattle.nets.proofs.Keeping.{stops, passes}
 
 -- what look answers is the oldest record that has arrived
@@ -93,7 +92,7 @@ oldest-in l x a = subst (In x) (sym (a .oldest .1)) (here-in x (a .oldest .0))
   here-in x xs = List·Memᴰ·head refl
 
 -- a record that the port can take is admitted
-pub admitted : (p q : Port) (source : ℕ) (x : Record) (r : Result (Unit {0}) NetFault) → source < 8 → misfits (p .own) source x (portView p .waiting) ≡ false → Cases r (λ _. (admitFault p source x ≡ None) × Became p q (afterFetch source x (portView p))) (λ f. (admitFault p source x ≡ Some f) × (q ≡ p)) → Became p q (afterFetch source x (portView p))
+pub admitted : (p q : Port) (source : ℕ) (x : Record) (r : Result (Unit {0}) NetFault) → source < 8 → misfits (p .own) source x (portView p .waiting) ≡ false → Admits p q source x r → Became p q (afterFetch source x (portView p))
 admitted p q source x (Ok u) lt e a = a .1
 admitted p q source x (Err f) lt e a =
     let none : admitFault p source x ≡ None = passes NoSuchPort (ltb 7 source) _ (le-ltb 7 source (omega arith)) ∙ passes SourceWaitingFull (misfits (p .own) source x (portView p .waiting)) None e in

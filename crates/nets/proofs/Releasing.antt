@@ -20,12 +20,12 @@ use Rattle.model.specs.Steps.{afterRelease}
 use Rattle.model.specs.Views.{Table, PortView, View, outside}
 use Rattle.ports.specs.declared.port.Port.{Port}
 use Rattle.ports.specs.Held.{Lowest}
-use Rattle.ports.specs.Ports.{portView, Became, Released}
+use Rattle.ports.specs.Ports.{portView, holdersOf, Became, Releases}
 use Rattle.nets.specs.Views.{tableOf}
 use Rattle.nets.proofs.Keeping.{stops, passes}
 
 -- the holders that the port finds are those of the rules
-pub held-is : (r : Reach) (port : ℕ) (p : Port) (o : PortView) (n : Decided) → o ≡ portView p → p .own ≡ port → Lowest (o .waiting) (Some n) → maskOf 8 (λ f. sends (r .masks) f (p .own) && holds (portView p .clearance f) (n .stamp .pair)) ≡ heldBy (tableOf r) port o (o .waiting)
+pub held-is : (r : Reach) (port : ℕ) (p : Port) (o : PortView) (n : Decided) → o ≡ portView p → p .own ≡ port → Lowest (o .waiting) (Some n) → holdersOf (r .masks) (p .own) (portView p) (n .stamp .pair) ≡ heldBy (tableOf r) port o (o .waiting)
 held-is r port p o n e own low =
     ap (λ q. maskOf 8 (λ f. sends (r .masks) f q && holds (portView p .clearance f) (n .stamp .pair))) own
     ∙ ap (λ x. holders (tableOf r) port x (n .stamp .pair)) (sym e)
@@ -58,7 +58,7 @@ module _ (v : View) (port : ℕ) (there : outside (v .table) port ≡ false) whe
       ∙ passes (Held (record { bits = m })) (ltb 0 m) None (le-ltb 0 m (omega arith))
 
 -- what the port released is what was lowest before
-pub released-so : (old new : Port) (r : Option Decided) (n : Decided) → Released old new r → Lowest (portView old .waiting) (Some n) → Became old new (afterRelease n (portView old))
+pub released-so : (old new : Port) (r : Option Decided) (n : Decided) → Releases old new r → Lowest (portView old .waiting) (Some n) → Became old new (afterRelease n (portView old))
 released-so old new None n e low = let z = ap length (sym (e .0) ∙ low) in absurd (omega arith)
 released-so old new (Some x) n e low = let same : x ≡ n = first-same x n (rest (portView old .waiting)) (sym (e .0) ∙ low) in subst (λ y. Became old new (afterRelease y (portView old))) same (e .1)
   where

@@ -24,7 +24,7 @@ use Rattle.model.specs.Views.{PortView}
 use Rattle.model.specs.Stamping.{nextPair, stepFits, floorAfter, stampable}
 use Rattle.model.specs.Holding.{holds}
 use Rattle.model.specs.Lists.{maskOf}
-use Rattle.records.specs.Masks.{named}
+use Rattle.records.specs.Reaching.{sends}
 use Rattle.model.specs.Batches.{goesTo, sentTo, countFrom}
 use Rattle.model.specs.Refusals.{_when_else_, cutsFit}
 use Rattle.model.specs.Calls.{HandIn, Decide, decision}
@@ -134,9 +134,9 @@ Admits old new source x (Err f) = (admitFault old source x ≡ Some f) × (new �
 
 -- RELEASE
 
--- those of the senders whose clearance holds a notice of this pair
-abbrev pub holdersAmong : ℕ → PortView → Pair → ℕ
-holdersAmong senders o pair = maskOf 8 (λ f. named senders f && holds (o .clearance f) pair)
+-- those who can send to the port, by the masks of a table, and whose clearance holds a notice of this pair
+abbrev pub holdersOf : List Mask → ℕ → PortView → Pair → ℕ
+holdersOf masks own o pair = maskOf 8 (λ f. sends masks f own && holds (o .clearance f) pair)
 
 -- the lowest waiting notice is released; where none waits, nothing changed
 abbrev pub Releases : Port → Port → Option Decided → Type 0

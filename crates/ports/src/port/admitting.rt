@@ -19,7 +19,7 @@ fn pair_of(record: Record) -> Pair
 
 impl Port {
     // Whether the port can take this record from the source.
-    fn takes(&self, source: u8, record: Record) -> bool
+    pub fn takes(&self, source: u8, record: Record) -> bool
         ensures { λ r. ⌜ r ≡ not (misfits (now (self .entry) .own) source «record» (portView (now (self .entry)) .waiting)) ⌝ }
     {
         match record {

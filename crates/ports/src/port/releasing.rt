@@ -2,11 +2,12 @@
 ghost use Rattle.model.specs.Holding.{holds};
 ghost use Rattle.model.specs.Stamping.{raised};
 ghost use Rattle.ports.specs.Held.{Lowest};
-ghost use Rattle.ports.specs.Ports.{portView, holdersAmong, Releases};
+ghost use Rattle.ports.specs.Ports.{portView, holdersOf, Releases};
 ghost use mathlib.Core.Path.{_≡_};
 use crate::port::Port;
 use records::mask::Mask;
 use records::notice::Decided;
+use records::reach::Reach;
 use records::stamp::Pair;
 
 // Whether a source of this clearance holds a notice of this pair.
@@ -37,13 +38,13 @@ impl Port {
         self.waiting.lowest()
     }
 
-    // Those of the senders who hold a notice of this pair: their clearance is missing, or below it.
-    pub fn holders(&self, senders: Mask, pair: Pair) -> Mask
-        ensures { λ r. ⌜ r .bits ≡ holdersAmong (senders .bits) (portView (now (self .entry))) pair ⌝ }
+    // Those who can send here and hold a notice of this pair: their clearance is missing, or below it.
+    pub fn holders(&self, reach: &Reach, pair: Pair) -> Mask
+        ensures { λ r. ⌜ r .bits ≡ holdersOf (now (reach .entry) .masks) (now (self .entry) .own) (portView (now (self .entry))) pair ⌝ }
     {
         let mut bits = 0;
         for f in 0..8u8 {
-            if senders.names(f) & holds(self.clearances[f as usize], pair) {
+            if reach.sends(f, self.own) & holds(self.clearances[f as usize], pair) {
                 bits += 1u8 << f;
             }
         }

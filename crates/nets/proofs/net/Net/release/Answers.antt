@@ -8,7 +8,7 @@ use Rattle.model.specs.Calls.{release}
 use Rattle.model.specs.Lists.{rest}
 use Rattle.model.specs.Steps.{afterRelease}
 use Rattle.ports.specs.Held.{Lowest}
-use Rattle.ports.specs.Ports.{portView, Released}
+use Rattle.ports.specs.Ports.{portView}
 use Rattle.nets.specs.Views.{portsOf, view}
 use Rattle.nets.proofs.Keeping.{kept, kept-refused, stops, inside-table}
 use Rattle.nets.proofs.Ports.{port-is, own-is, only-port, numbered-still}
