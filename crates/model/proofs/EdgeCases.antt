@@ -33,4 +33,4 @@ clocks o x y z d r s =
     (first, ap (λ n. max n (y .reading)) (cond-true (eqb (y .dispatcher) (x .dispatcher)) (handedOf o x .clock) (o .clock (y .dispatcher)) (eq-eqb (y .dispatcher) (x .dispatcher) d) ∙ first) ∙ ap (λ n. max 50 n) s)
 
 pub edges : Edges
-edges = record { later = refl; same = refl; earlier = refl; used-up = used-up; none-fits = none-fits; number = refl; anew = refl; stamps = refl; held = refl; not-held = refl; queue = refl; clocks = clocks }
+edges = record { later = refl; same = refl; earlier = refl; used-up = used-up; none-fits = none-fits; number = refl; anew = refl; stamps = refl; held = refl; not-held = refl; seven-leaves = refl; clocks = clocks }

@@ -12,7 +12,7 @@ use Rattle.records.specs.declared.stamp.Stamp.{Stamp}
 use Rattle.records.specs.declared.notice.Action.the-variants.{Leave}
 use Rattle.records.specs.declared.notice.Handed.{Handed}
 use Rattle.boards.specs.declared.outcome.Outcome.the-variants.{Gone}
-use Rattle.model.specs.Queues.{queueTurn}
+use Rattle.boards.specs.Kinds.{queue}
 use Rattle.model.specs.Stamping.{nextPair, stamped, stampable}
 use Rattle.model.specs.Views.{PortView, View}
 use Rattle.model.specs.Holding.{holds}
@@ -45,7 +45,7 @@ pub record Edges : Type 0 where
   pub held : holds (Some (pair 100 0)) (pair 100 1) ≡ true
   pub not-held : holds (Some (pair 100 1)) (pair 100 1) ≡ false
   -- on the queue board, of 7 and then 9, 7 leaves
-  pub queue : queueTurn (7 ∷ 9 ∷ []) Leave 7 ≡ record { list = 9 ∷ []; outcome = Gone }
+  pub seven-leaves : queue (7 ∷ 9 ∷ []) Leave 7 ≡ record { list = 9 ∷ []; outcome = Gone }
   -- one dispatcher's readings 50, then 40
   pub clocks : (o : PortView) (x y : HandIn) → o .clock (x .dispatcher) ≡ 0 → y .dispatcher ≡ x .dispatcher
       → x .reading ≡ 50 → y .reading ≡ 40

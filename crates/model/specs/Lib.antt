@@ -8,7 +8,6 @@ pub mod Refusals
 pub mod Steps
 pub mod Histories
 pub mod Law
-pub mod Queues
 pub mod Edges
 pub mod Runs
 pub mod Answers
