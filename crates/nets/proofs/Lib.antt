@@ -1,4 +1,5 @@
 pub mod Clearing
+pub mod Deciding
 pub mod Fetching
 pub mod Keeping
 pub mod Opening

@@ -6,6 +6,7 @@ use records::reach::Reach;
 
 pub mod bringing; // bring
 pub mod clearing; // clear
+pub mod deciding; // decide
 pub mod fetching; // fetch
 pub mod opening; // open
 pub mod releasing; // release
