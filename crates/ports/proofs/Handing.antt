@@ -36,8 +36,8 @@ added x old new (Ok u) room e = e .1
 added x old new (Err f) room e = absurd (omega (arith, e .1))
 
 -- the notice as the code makes it
-abbrev pub made : Port → ℕ → ℕ → Mask → ℕ → ℕ → Action → ℕ → Handed
-made p d clock to home berth action vessel = record { notice = record { source = p .own; dispatcher = d; count = getD (p .given) d 0 + 1; to = to; home = home; berth = berth; action = action; vessel = vessel }; clock = clock }
+abbrev pub made : Port → ℕ → ℕ → ℕ → Mask → ℕ → ℕ → Action → ℕ → Handed
+made p d count clock to home berth action vessel = record { notice = record { source = p .own; dispatcher = d; count = count; to = to; home = home; berth = berth; action = action; vessel = vessel }; clock = clock }
 
-pub made-is : (p : Port) (d reading clock : ℕ) (to : Mask) (home berth : ℕ) (action : Action) (vessel : ℕ) → clock ≡ max (getD (p .clocks) d 0) reading → made p d clock to home berth action vessel ≡ handedOf (portView p) (handingIn p d reading to home berth action vessel)
-made-is p d reading clock to home berth action vessel e = λ i. made p d (e i) to home berth (action-same action i) vessel
+pub made-is : (p : Port) (d reading count clock : ℕ) (to : Mask) (home berth : ℕ) (action : Action) (vessel : ℕ) → count ≡ getD (p .given) d 0 + 1 → clock ≡ max (getD (p .clocks) d 0) reading → made p d count clock to home berth action vessel ≡ handedOf (portView p) (handingIn p d reading to home berth action vessel)
+made-is p d reading count clock to home berth action vessel next e = λ i. made p d (next i) (e i) to home berth (action-same action i) vessel

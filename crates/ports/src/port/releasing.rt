@@ -55,7 +55,7 @@ impl Port {
     pub fn release(&mut self) -> Option<Decided>
         ensures { λ r. ⌜ Releases (now (self .entry)) (now (self .exit)) r ⌝ }
     {
-        let Some(notice) = self.waiting.lowest() else {
+        let Some(notice) = self.lowest() else {
             return None;
         };
         let _ = self.waiting.take_lowest();

@@ -29,7 +29,7 @@ const NOTHING: Handed = Handed {
 };
 
 impl Undecided {
-    pub fn new() -> Undecided
+    pub(crate) fn new() -> Undecided
         ensures { λ r. ⌜ undecidedOf r ≡ [] ⌝ }
     {
         Undecided {
@@ -39,14 +39,14 @@ impl Undecided {
     }
 
     // The notices, in their order.
-    pub fn list(&self) -> &[Handed]
+    pub(crate) fn list(&self) -> &[Handed]
         ensures { λ r. ⌜ now r ≡ undecidedOf (now (self .entry)) ⌝ }
     {
         &self.notices[0..self.len]
     }
 
     // Puts the notice in its place; where 16 are undecided it is refused.
-    pub fn add(&mut self, notice: Handed) -> Result<(), NetFault>
+    pub(crate) fn add(&mut self, notice: Handed) -> Result<(), NetFault>
         ensures { λ r. ⌜ Adds (now (self .entry)) (now (self .exit)) notice r ⌝ }
     {
         if self.len == 16 {
@@ -58,7 +58,7 @@ impl Undecided {
     }
 
     // The batch leaves: only the notices above their dispatchers' cuts stay.
-    pub fn keep(&mut self, cuts: &[u16; 4])
+    pub(crate) fn keep(&mut self, cuts: &[u16; 4])
         ensures { λ _. ⌜ undecidedOf (now (self .exit)) ≡ left (now (cuts .entry)) (undecidedOf (now (self .entry))) ⌝ }
     {
         let len = self.len;

@@ -37,7 +37,7 @@ const NOTHING: Decided = Decided {
 };
 
 impl Waiting {
-    pub fn new() -> Waiting
+    pub(crate) fn new() -> Waiting
         ensures { λ r. ⌜ waitingOf r ≡ [] ⌝ }
     {
         Waiting {
@@ -47,21 +47,21 @@ impl Waiting {
     }
 
     // The notices, in their order.
-    pub fn list(&self) -> &[Decided]
+    pub(crate) fn list(&self) -> &[Decided]
         ensures { λ r. ⌜ now r ≡ waitingOf (now (self .entry)) ⌝ }
     {
         &self.notices[0..self.len]
     }
 
     // How many of the source wait.
-    pub fn count_from(&self, source: u8) -> usize
+    pub(crate) fn count_from(&self, source: u8) -> usize
         ensures { λ r. ⌜ r ≡ countFrom source (waitingOf (now (self .entry))) ⌝ }
     {
         count_from(self.list(), source)
     }
 
     // Puts the notice in its place. Where eight of its port wait, or it is stamped by a port that there is not, it is refused.
-    pub fn add(&mut self, notice: Decided) -> Result<(), NetFault>
+    pub(crate) fn add(&mut self, notice: Decided) -> Result<(), NetFault>
         ensures { λ r. ⌜ Joins (now (self .entry)) (now (self .exit)) notice r ⌝ }
     {
         let source = notice.stamp.port;
@@ -74,7 +74,7 @@ impl Waiting {
     }
 
     // The lowest by stamp, if any waits.
-    pub fn lowest(&self) -> Option<Decided>
+    pub(crate) fn lowest(&self) -> Option<Decided>
         ensures { λ r. ⌜ Lowest (waitingOf (now (self .entry))) r ⌝ }
     {
         if self.len == 0 {
@@ -84,7 +84,7 @@ impl Waiting {
     }
 
     // The lowest leaves.
-    pub fn take_lowest(&mut self) -> Option<Decided>
+    pub(crate) fn take_lowest(&mut self) -> Option<Decided>
         ensures value { λ r. ⌜ Lowest (waitingOf (now (self .entry))) r ⌝ }
         ensures after { λ _. ⌜ waitingOf (now (self .exit)) ≡ rest (waitingOf (now (self .entry))) ⌝ }
         ensures none { λ r. ⌜ (r ≡ None → now (self .exit) ≡ now (self .entry)) ⌝ }
