@@ -40,8 +40,8 @@ pub taken-so : (old new : Lines) (a b : ℕ) (x : Record) (r : Option Record) �
 taken-so old new a b x None l t = absurd (omega (arith, l .some, t .none))
 taken-so old new a b x (Some y) l t = let e : y ≡ x = same y x (new a b .held) (l .oldest .0) (sym (t .held) ∙ l .oldest .1) in subst (Taken old new a b) e t
   where
-  same : (y x : Record) (ys xs : List Record) → y ∷ ys ≡ x ∷ xs → y ≡ x
-  same y x ys xs e = cc
+    same : (y x : Record) (ys xs : List Record) → y ∷ ys ≡ x ∷ xs → y ≡ x
+    same y x ys xs e = cc
 
 -- a notice on a line is of its source and addressed to its end, after every history
 abbrev pub Genuine : ℕ → ℕ → Record → Type 0
@@ -88,8 +88,8 @@ module _ (v : View) (port source : ℕ) (there : (outside (v .table) port || out
 pub oldest-in : (l : Line) (x : Record) → LookAnswers l (Some x) → In x (l .held)
 oldest-in l x a = subst (In x) (sym (a .oldest .1)) (here-in x (a .oldest .0))
   where
-  here-in : (x : Record) (xs : List Record) → In x (x ∷ xs)
-  here-in x xs = List·Memᴰ·head refl
+    here-in : (x : Record) (xs : List Record) → In x (x ∷ xs)
+    here-in x xs = List·Memᴰ·head refl
 
 -- a record that the port can take is admitted
 pub admitted : (p q : Port) (source : ℕ) (x : Record) (r : Result (Unit {0}) NetFault) → source < 8 → misfits (p .own) source x (portView p .waiting) ≡ false → Admits p q source x r → Became p q (afterFetch source x (portView p))

@@ -51,12 +51,12 @@ module _ (ps : List Port) (at : ℕ) (n : Numbered ps) (lt : at < 8) (d : Port) 
       let mapped : portsOf (set ps at new) q ≡ getD (set (map portView ps) at (portView new)) q fresh = ap (λ vs. getD vs q fresh) (map-set portView ps at new) in
       ⊎-elim
       (λ (same : q ≡ at).
-        mapped
-        ∙ ap (λ k. getD (set (map portView ps) at (portView new)) k fresh) same
-        ∙ getD-set-same (map portView ps) at (portView new) fresh (omega (arith, inside, length-map ps portView))
-        ∙ e
-        ∙ ap after (sym port-is ∙ ap (portsOf ps) (sym same))
-        ∙ sym (cond-true (eqb q at) (after (portsOf ps q)) (portsOf ps q) (eq-eqb q at same)))
+      mapped
+      ∙ ap (λ k. getD (set (map portView ps) at (portView new)) k fresh) same
+      ∙ getD-set-same (map portView ps) at (portView new) fresh (omega (arith, inside, length-map ps portView))
+      ∙ e
+      ∙ ap after (sym port-is ∙ ap (portsOf ps) (sym same))
+      ∙ sym (cond-true (eqb q at) (after (portsOf ps q)) (portsOf ps q) (eq-eqb q at same)))
       (λ (other : q ≡ at → ⊥). mapped ∙ getD-set-other (map portView ps) at q (portView new) fresh other ∙ sym (cond-false (eqb q at) (after (portsOf ps q)) (portsOf ps q) (ne-eqb q at other)))
       (cases-eq q at)
 

@@ -62,5 +62,5 @@ pub released-so : (old new : Port) (r : Option Decided) (n : Decided) → Releas
 released-so old new None n e low = let z = ap length (sym (e .0) ∙ low) in absurd (omega arith)
 released-so old new (Some x) n e low = let same : x ≡ n = first-same x n (rest (portView old .waiting)) (sym (e .0) ∙ low) in subst (λ y. Became old new (afterRelease y (portView old))) same (e .1)
   where
-  first-same : (x n : Decided) (xs : List Decided) → x ∷ xs ≡ n ∷ xs → x ≡ n
-  first-same x n xs e = cc
+    first-same : (x n : Decided) (xs : List Decided) → x ∷ xs ≡ n ∷ xs → x ≡ n
+    first-same x n xs e = cc

@@ -12,6 +12,7 @@ use records::mask::MaskPartialEq;
 use records::notice::DecidedDebug;
 use records::notice::DecidedPartialEq;
 use records::notice::Record;
+use records::reach::Reach;
 use records::stamp::Pair;
 use records::stamp::PairDebug;
 use records::stamp::PairPartialEq;
@@ -58,21 +59,21 @@ fn holders_are_those_who_may_send_lower() -> Result<(), Fail> {
         clock: 100,
         step: 1,
     };
+    // the masks of a table, and who of port 0's senders holds the pair
     let cases = [
-        (0, 0),
-        (2, 2),
-        (4, 0),
-        (8, 8),
-        (16, 0),
-        (32, 32),
-        (30, 10),
-        (255, 235),
+        ([0, 1, 0, 0, 0, 0, 0, 0], 2),
+        ([0, 0, 1, 0, 0, 0, 0, 0], 0),
+        ([0, 0, 0, 1, 0, 0, 0, 0], 8),
+        ([0, 0, 0, 0, 1, 0, 0, 0], 0),
+        ([0, 0, 0, 0, 0, 1, 0, 0], 32),
+        ([0, 1, 1, 1, 1, 1, 1, 1], 234),
+        ([254, 0, 0, 0, 0, 0, 0, 0], 0),
     ];
-    for (senders, holders) in cases {
-        check_eq(
-            port.holders(Mask { bits: senders }, pair),
-            Mask { bits: holders },
-        )?;
+    for (masks, holders) in cases {
+        match Reach::new(&masks) {
+            Ok(reach) => check_eq(port.holders(&reach, pair), Mask { bits: holders })?,
+            Err(_) => return Err(Fail::new("no table")),
+        }
     }
     Ok(())
 }

@@ -33,7 +33,13 @@ impl<W: Wire, B: Board> Net<W, B> {
         }
         let _ = self.ports[at].release();
         let notice = lowest.notice;
-        let outcome = self.board.apply(port, notice.home, notice.berth, notice.action, notice.vessel);
+        let outcome = self.board.apply(
+            port,
+            notice.home,
+            notice.berth,
+            notice.action,
+            notice.vessel,
+        );
         Ok((lowest, outcome))
     }
 }

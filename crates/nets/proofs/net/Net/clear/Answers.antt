@@ -56,8 +56,8 @@ returns-in-Err-send-clearance g c =
     let same = c .in-Err-send-clearance .ensures tt .1 .same in
     record {
       kept =
-        subst (λ w. Kept depth (g .B·Board .rule) v (refused (clear p r) (c .in-Err-send-clearance .fault)) (record { table = tableOf (n .reach); port = portsOf (n .ports); line = line w; shown = shown (n .board) })) (sym same)
-        (subst (λ f. Kept depth (g .B·Board .rule) v (refused (clear p r) f) v) (sym (c .in-Err-send-clearance .ensures tt .0)) (kept-refused v (clear p r) LineFull (no-room depth v p r there fits full)));
+          subst (λ w. Kept depth (g .B·Board .rule) v (refused (clear p r) (c .in-Err-send-clearance .fault)) (record { table = tableOf (n .reach); port = portsOf (n .ports); line = line w; shown = shown (n .board) })) (sym same)
+          (subst (λ f. Kept depth (g .B·Board .rule) v (refused (clear p r) f) v) (sym (c .in-Err-send-clearance .ensures tt .0)) (kept-refused v (clear p r) LineFull (no-room depth v p r there fits full)));
       same = record { reach = refl; ports = refl; wire = same; board = refl };
     }
 
