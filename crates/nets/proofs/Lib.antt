@@ -1,5 +1,6 @@
 pub mod Clearing
 pub mod Fetching
+pub mod Handing
 pub mod Keeping
 pub mod Opening
 pub mod Ports

@@ -1,2 +1,3 @@
+pub mod Handing
 pub mod Promises
 pub mod Views

@@ -7,6 +7,7 @@ use records::reach::Reach;
 pub mod bringing; // bring
 pub mod clearing; // clear
 pub mod fetching; // fetch
+pub mod handing; // hand in
 pub mod opening; // open
 pub mod releasing; // release
 mod reading; // what the calls look up in the table
