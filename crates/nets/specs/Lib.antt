@@ -1,3 +1,4 @@
 pub mod Deciding
+pub mod Handing
 pub mod Promises
 pub mod Views

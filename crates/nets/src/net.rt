@@ -8,9 +8,11 @@ pub mod bringing; // bring
 pub mod clearing; // clear
 pub mod deciding; // decide
 pub mod fetching; // fetch
+pub mod handing; // hand in
 pub mod opening; // open
 pub mod releasing; // release
 mod reading; // what the calls look up in the table
+pub mod showing; // a port's board, read
 
 // A reach table, a port for each of eight numbers, of which those of the table are used, and the wire and the board that the
 // net owns.

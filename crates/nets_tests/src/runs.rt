@@ -74,7 +74,11 @@ fn one_order<W: Wire + Drop, B: Board + Drop>(wire: W, board: B, second: Outcome
     check_eq(net.bring(1, 0), Ok(()))?;
     check_eq(net.fetch(0, 1), Ok(()))?;
     check_eq(released(&mut net, 0), Ok((100, 0, 0, 7, Outcome::Alongside)))?;
-    check_eq(released(&mut net, 0), Ok((100, 1, 1, 9, second)))
+    check_eq(released(&mut net, 0), Ok((100, 1, 1, 9, second)))?;
+    check_eq(released(&mut net, 1), Ok((100, 1, 1, 9, second)))?;
+    check_eq(net.vessel_at(0, 0, 4, 0), 7)?;
+    check_eq(net.vessel_at(1, 0, 4, 0), 7)?;
+    check_eq(net.vessels(0, 0, 4), net.vessels(1, 0, 4))
 }
 
 #[test]
