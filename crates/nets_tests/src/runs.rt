@@ -49,14 +49,24 @@ pub fn released<W: Wire, B: Board>(
     port: u8,
 ) -> Result<(u32, u16, u8, u16, Outcome), NetFault> {
     match net.release(port) {
-        Ok((n, outcome)) => Ok((n.stamp.pair.clock, n.stamp.pair.step, n.stamp.port, n.notice.vessel, outcome)),
+        Ok((n, outcome)) => Ok((
+            n.stamp.pair.clock,
+            n.stamp.pair.step,
+            n.stamp.port,
+            n.notice.vessel,
+            outcome,
+        )),
         Err(fault) => Err(fault),
     }
 }
 
 // Port 0 says at 100 that vessel 7 takes berth 4 of port 0, port 1 at 90 that vessel 9 does. Port 1 releases 7 first, and its
 // own notice is then stamped above it, so that both ports release 7 and then 9.
-fn one_order<W: Wire + Drop, B: Board + Drop>(wire: W, board: B, second: Outcome) -> Result<(), Fail> {
+fn one_order<W: Wire + Drop, B: Board + Drop>(
+    wire: W,
+    board: B,
+    second: Outcome,
+) -> Result<(), Fail> {
     let Ok(reach) = Reach::new(&[2, 1]) else {
         return Err(Fail::new("no table"));
     };
@@ -67,13 +77,19 @@ fn one_order<W: Wire + Drop, B: Board + Drop>(wire: W, board: B, second: Outcome
     check_eq(net.decide(0, 0, [1, 0, 0, 0], &mut working), Ok((1, 1)))?;
     check_eq(net.bring(0, 1), Ok(()))?;
     check_eq(net.fetch(1, 0), Ok(()))?;
-    check_eq(released(&mut net, 1), Ok((100, 0, 0, 7, Outcome::Alongside)))?;
+    check_eq(
+        released(&mut net, 1),
+        Ok((100, 0, 0, 7, Outcome::Alongside)),
+    )?;
     check_eq(net.decide(1, 0, [1, 0, 0, 0], &mut working), Ok((1, 1)))?;
     check_eq(working[0].notice.vessel, 9)?;
     check_eq(released(&mut net, 0), Err(NetFault::Held(Mask { bits: 2 })))?;
     check_eq(net.bring(1, 0), Ok(()))?;
     check_eq(net.fetch(0, 1), Ok(()))?;
-    check_eq(released(&mut net, 0), Ok((100, 0, 0, 7, Outcome::Alongside)))?;
+    check_eq(
+        released(&mut net, 0),
+        Ok((100, 0, 0, 7, Outcome::Alongside)),
+    )?;
     check_eq(released(&mut net, 0), Ok((100, 1, 1, 9, second)))?;
     check_eq(released(&mut net, 1), Ok((100, 1, 1, 9, second)))?;
     check_eq(net.vessel_at(0, 0, 4, 0), 7)?;
