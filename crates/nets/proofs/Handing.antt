@@ -3,11 +3,11 @@ use mathlib.Core.Path.{_≡_, refl, sym, ap, subst, _∙_}
 use mathlib.Core.Bool.{Bool, true, false, not, _||_}
 use mathlib.Core.List.{List}
 use mathlib.Core.Logic.{⊎-elim}
-use Prim.Native.Nat.{ℕ, _+_, _≤_, _<_}
+use Prim.Native.Nat.{ℕ, _+_, _<_}
 use lib.Dec.{eqb, ltb}
 use lib.ListN.{getD, set}
 use Rattle.std.proofs.shelf.Lists.{set-getD}
-use Rattle.std.proofs.shelf.Tests.{le-ltb, lt-ltb, not-false, or-cases, or-parts, eqb-true}
+use Rattle.std.proofs.shelf.Tests.{not-false, or-cases, or-parts, eqb-true}
 use Rattle.std.specs.Results.{Cases}
 use Rattle.std.specs.declared.option.Option.the-variants.{Some}
 use Rattle.std.specs.declared.result.Result.{Result}
@@ -56,10 +56,10 @@ same-call t p port dispatcher reading to home berth action vessel a own is e =
 -- ---- the faults
 
 module _ (v : View) (x : HandIn) (there : outside (v .table) (x .port) ≡ false) where
-  pub wrong-dispatcher : 3 < x .dispatcher → handInFault v x ≡ Some NoSuchDispatcher
-  wrong-dispatcher e = passes NoSuchPort _ _ there ∙ stops NoSuchDispatcher (ltb 3 (x .dispatcher)) _ (lt-ltb 3 (x .dispatcher) e)
+  pub wrong-dispatcher : ltb 3 (x .dispatcher) ≡ true → handInFault v x ≡ Some NoSuchDispatcher
+  wrong-dispatcher e = passes NoSuchPort _ _ there ∙ stops NoSuchDispatcher (ltb 3 (x .dispatcher)) _ e
 
-  module _ (known : x .dispatcher ≤ 3) where
+  module _ (known : ltb 3 (x .dispatcher) ≡ false) where
     abbrev content : Bool
     content = wrongContent (v .table) (x .home) (x .berth) (x .action) (x .vessel)
 
@@ -67,20 +67,20 @@ module _ (v : View) (x : HandIn) (there : outside (v .table) (x .port) ≡ false
     astray = eqb (x .to) 0 || not (inReach (v .table) (x .port) (x .to))
 
     pub wrong-content : content ≡ true → handInFault v x ≡ Some WrongContent
-    wrong-content e = passes NoSuchPort _ _ there ∙ passes NoSuchDispatcher (ltb 3 (x .dispatcher)) _ (le-ltb 3 (x .dispatcher) known) ∙ stops WrongContent content _ e
+    wrong-content e = passes NoSuchPort _ _ there ∙ passes NoSuchDispatcher (ltb 3 (x .dispatcher)) _ known ∙ stops WrongContent content _ e
 
     module _ (fit : content ≡ false) where
       pub wrong-destinations : astray ≡ true → handInFault v x ≡ Some WrongDestinations
-      wrong-destinations e = passes NoSuchPort _ _ there ∙ passes NoSuchDispatcher (ltb 3 (x .dispatcher)) _ (le-ltb 3 (x .dispatcher) known) ∙ passes WrongContent content _ fit ∙ stops WrongDestinations astray _ e
+      wrong-destinations e = passes NoSuchPort _ _ there ∙ passes NoSuchDispatcher (ltb 3 (x .dispatcher)) _ known ∙ passes WrongContent content _ fit ∙ stops WrongDestinations astray _ e
 
       -- the rest is the port's to refuse
       pub up-to-port : astray ≡ false → handInFault v x ≡ handingFault (v .port (x .port)) (x .dispatcher)
       up-to-port e =
           passes NoSuchPort _ _ there
-          ∙ passes NoSuchDispatcher (ltb 3 (x .dispatcher)) _ (le-ltb 3 (x .dispatcher) known)
+          ∙ passes NoSuchDispatcher (ltb 3 (x .dispatcher)) _ known
           ∙ passes WrongContent content _ fit
           ∙ passes WrongDestinations astray _ e
-          ∙ sym (passes NoSuchDispatcher (ltb 3 (x .dispatcher)) _ (le-ltb 3 (x .dispatcher) known))
+          ∙ sym (passes NoSuchDispatcher (ltb 3 (x .dispatcher)) _ known)
 
 -- ---- what the port made of it
 

@@ -6,6 +6,7 @@ ghost use Rattle.nets.specs.Handing.{addressed, handInCall, wrongContent};
 ghost use Rattle.nets.specs.Promises.{Kept};
 ghost use Rattle.nets.specs.Views.{tableOf, view, SameNet};
 ghost use Rattle.std.specs.Results.{Cases};
+ghost use lib.Dec.{ltb};
 ghost use mathlib.Core.Path.{_≡_};
 use crate::net::Net;
 use boards::board::Board;
@@ -13,6 +14,13 @@ use records::fault::NetFault;
 use records::mask::Mask;
 use records::notice::Action;
 use wires::wire::Wire;
+
+// Whether the number is none of a port's four dispatchers, 0 to 3.
+fn beyond_four(dispatcher: u8) -> bool
+    ensures { λ r. ⌜ r ≡ ltb 3 dispatcher ⌝ }
+{
+    dispatcher > 3
+}
 
 // 1 take, 2 leave; other numbers are refused before.
 fn action_of(number: u8) -> Action
@@ -72,7 +80,7 @@ impl<W: Wire, B: Board> Net<W, B> {
         if self.lacks(port) {
             return Err(NetFault::NoSuchPort);
         }
-        if dispatcher > 3 {
+        if beyond_four(dispatcher) {
             return Err(NetFault::NoSuchDispatcher);
         }
         if self.misdescribes(home, berth, action, vessel) {

@@ -19,12 +19,12 @@ returns-then-lacks g c =
     let x = handInCall (a .port) (a .dispatcher) (a .reading) (a .mask) (a .home) (a .berth) (a .action) (a .vessel) in
     record { kept = kept-refused v (hand-in x) NoSuchPort (stops NoSuchPort _ _ (sym (c .lacks .ensures) ∙ c .if-lacks .taken)); same = record { reach = refl; ports = refl; wire = refl; board = refl } }
 
-pub returns-then-dispatcher-gt3 : need.returns-then-dispatcher-gt3
-returns-then-dispatcher-gt3 g c =
+pub returns-then-beyond-four : need.returns-then-beyond-four
+returns-then-beyond-four g c =
     let v = view (g .W·Wire .line) (g .B·Board .shown) (c .args .self .now) in
     let a = c .args in
     let x = handInCall (a .port) (a .dispatcher) (a .reading) (a .mask) (a .home) (a .berth) (a .action) (a .vessel) in
-    record { kept = kept-refused v (hand-in x) NoSuchDispatcher (wrong-dispatcher v x (sym (c .lacks .ensures) ∙ c .if-lacks .left) (c .if-dispatcher-gt3 .taken)); same = record { reach = refl; ports = refl; wire = refl; board = refl } }
+    record { kept = kept-refused v (hand-in x) NoSuchDispatcher (wrong-dispatcher v x (sym (c .lacks .ensures) ∙ c .if-lacks .left) (sym (c .beyond-four .ensures) ∙ c .if-beyond-four .taken)); same = record { reach = refl; ports = refl; wire = refl; board = refl } }
 
 pub returns-then-misdescribes : need.returns-then-misdescribes
 returns-then-misdescribes g c =
@@ -32,7 +32,7 @@ returns-then-misdescribes g c =
     let a = c .args in
     let x = handInCall (a .port) (a .dispatcher) (a .reading) (a .mask) (a .home) (a .berth) (a .action) (a .vessel) in
     record {
-      kept = kept-refused v (hand-in x) WrongContent (wrong-content v x (sym (c .lacks .ensures) ∙ c .if-lacks .left) (c .if-dispatcher-gt3 .left) (sym (c .misdescribes .ensures) ∙ c .if-misdescribes .taken));
+      kept = kept-refused v (hand-in x) WrongContent (wrong-content v x (sym (c .lacks .ensures) ∙ c .if-lacks .left) (sym (c .beyond-four .ensures) ∙ c .if-beyond-four .left) (sym (c .misdescribes .ensures) ∙ c .if-misdescribes .taken));
       same = record { reach = refl; ports = refl; wire = refl; board = refl };
     }
 
@@ -43,7 +43,7 @@ returns-then-mask-in-reach g c =
     let x = handInCall (a .port) (a .dispatcher) (a .reading) (a .mask) (a .home) (a .berth) (a .action) (a .vessel) in
     let astray = any-of {a = eqb (a .mask) 0} refl (ap not (c .in-reach .ensures)) (c .if-mask-in-reach .taken) in
     record {
-      kept = kept-refused v (hand-in x) WrongDestinations (wrong-destinations v x (sym (c .lacks .ensures) ∙ c .if-lacks .left) (c .if-dispatcher-gt3 .left) (sym (c .misdescribes .ensures) ∙ c .if-misdescribes .left) astray);
+      kept = kept-refused v (hand-in x) WrongDestinations (wrong-destinations v x (sym (c .lacks .ensures) ∙ c .if-lacks .left) (sym (c .beyond-four .ensures) ∙ c .if-beyond-four .left) (sym (c .misdescribes .ensures) ∙ c .if-misdescribes .left) astray);
       same = record { reach = refl; ports = refl; wire = refl; board = refl };
     }
 
@@ -74,6 +74,6 @@ returns g c =
     let call = same-call (v .table) old p (a .dispatcher) (a .reading) (a .mask) (a .home) (a .berth) (a .action) (a .vessel) (c .action-of-action .result) (own-is (n .ports) p (n .own) lt d) (c .action-of-action .ensures) fit in
     let did : HandsIn old new x (c .hand-in .result) = subst (λ y. HandsIn old new y (c .hand-in .result)) call (c .hand-in .ensures) in
     record {
-      kept = hands-in line shown n x lt d new (g .W·Wire .depth) (g .B·Board .rule) (c .hand-in .result) (up-to-port v x there (c .if-dispatcher-gt3 .left) fit near) did;
+      kept = hands-in line shown n x lt d new (g .W·Wire .depth) (g .B·Board .rule) (c .hand-in .result) (up-to-port v x there (sym (c .beyond-four .ensures) ∙ c .if-beyond-four .left) fit near) did;
       same = stays line shown n x lt d new (c .hand-in .result) did _ refl refl refl refl;
     }
