@@ -19,6 +19,8 @@ use records::notice::Decided;
 use records::notice::Notice;
 use records::reach::Reach;
 use records::stamp::Pair;
+use records::stamp::PairDebug;
+use records::stamp::PairPartialEq;
 use records::stamp::Stamp;
 use row_wire::RowLines;
 use row_wire::RowWire;
@@ -91,6 +93,17 @@ fn one_order<W: Wire + Drop, B: Board + Drop>(
         Ok((100, 0, 0, 7, Outcome::Alongside)),
     )?;
     check_eq(released(&mut net, 0), Ok((100, 1, 1, 9, second)))?;
+    // at port 1 it is held until port 0 says that it will stamp nothing lower
+    check_eq(released(&mut net, 1), Err(NetFault::Held(Mask { bits: 1 })))?;
+    check_eq(
+        net.clear(0, 0),
+        Ok(Pair {
+            clock: 100,
+            step: 2,
+        }),
+    )?;
+    check_eq(net.bring(0, 1), Ok(()))?;
+    check_eq(net.fetch(1, 0), Ok(()))?;
     check_eq(released(&mut net, 1), Ok((100, 1, 1, 9, second)))?;
     check_eq(net.vessel_at(0, 0, 4, 0), 7)?;
     check_eq(net.vessel_at(1, 0, 4, 0), 7)?;
