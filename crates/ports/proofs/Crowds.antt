@@ -6,7 +6,7 @@ use mathlib.Core.Logic.{_⊎_, ⊎-elim}
 use Prim.Native.Nat.{ℕ, zero, suc, _+_, _-_, _*_, _≤_, _<_}
 use native.Mathlib.Omega.{arith}
 use lib.Dec.{eqb, ltb}
-use lib.ListN.{length, getD, take}
+use lib.ListN.{length, take}
 use Rattle.std.proofs.shelf.Tests.{cond-true, cond-false, cond-both, cases-eq, cases-bool, eq-eqb, ne-eqb, lt-ltb, le-ltb, and-parts}
 use Rattle.std.proofs.shelf.Ways.{tells}
 use Rattle.std.specs.declared.option.Option.{Option}
@@ -112,9 +112,3 @@ module _ (x : Decided) (len : ℕ) (old new : List Decided) (taken : Taken decid
 
   pub crowds-left : ((p : ℕ) → countFrom p (take len old) ≤ 8) → (p : ℕ) → countFrom p (take (len - 1) new) ≤ 8
   crowds-left each p = omega (arith, each p, ap (countFrom p) (taken .entries), count-cons p x (take (len - 1) new))
-
--- the first of those that wait
-pub first-read : (xs : List Decided) (len : ℕ) (d : Decided) → 0 < len → len ≤ length xs → take len xs ≡ getD xs 0 d ∷ rest (take len xs)
-first-read [] len d some within = absurd (omega arith)
-first-read (x ∷ xs) zero d some within = absurd (omega arith)
-first-read (x ∷ xs) (suc len) d some within = refl
