@@ -39,10 +39,10 @@ const NOTHING: Decided = Decided {
 fn first(notices: &[Decided]) -> Option<Decided>
     ensures { λ r. ⌜ Lowest (now (notices .entry)) r ⌝ }
 {
-    match notices {
-        [lowest, ..] => Some(*lowest),
-        [] => None,
+    if notices.len() == 0 {
+        return None;
     }
+    Some(notices[0])
 }
 
 impl Waiting {
