@@ -1,13 +1,12 @@
 -- Counts by source, and the room that at most eight of each of eight ports leave. Assumes nothing.
 use mathlib.Core.Path.{_≡_, refl, sym, ap, _∙_}
-use mathlib.Core.Bool.{Bool, true, false, cond, _&&_}
+use mathlib.Core.Bool.{Bool, true, false, cond}
 use mathlib.Core.List.{List, [], _∷_}
 use mathlib.Core.Logic.{_⊎_, ⊎-elim}
 use Prim.Native.Nat.{ℕ, zero, suc, _+_, _-_, _*_, _≤_, _<_}
 use native.Mathlib.Omega.{arith}
 use lib.Dec.{eqb, ltb}
-use lib.ListN.{length, getD, take}
-use Rattle.std.specs.shelf.Lists.{kept-by}
+use lib.ListN.{length, take}
 use Rattle.std.proofs.shelf.Tests.{cond-true, cond-false, cond-both, cases-eq, cases-bool, eq-eqb, ne-eqb, lt-ltb, le-ltb, and-parts}
 use Rattle.std.proofs.shelf.Ways.{tells}
 use Rattle.std.specs.declared.option.Option.{Option}
@@ -42,10 +41,6 @@ count-placed before p x (y ∷ ys) =
     cond-both (before x y) (x ∷ y ∷ ys) (y ∷ placed before x ys) (λ zs. countFrom p zs ≡ countFrom p (y ∷ ys) + one p x)
     (λ e. count-cons p x (y ∷ ys))
     (λ e. omega (arith, count-cons p y (placed before x ys), count-placed before p x ys, count-cons p y ys))
-
-pub count-le : (p : ℕ) (xs : List Decided) → countFrom p xs ≤ length xs
-count-le p [] = omega arith
-count-le p (x ∷ xs) = let e = count-cons p x xs in let rest = count-le p xs in grind (arith, tells)
 
 -- the crowd, port by port
 abbrev totalBelow : ℕ → List Decided → ℕ
@@ -117,9 +112,3 @@ module _ (x : Decided) (len : ℕ) (old new : List Decided) (taken : Taken decid
 
   pub crowds-left : ((p : ℕ) → countFrom p (take len old) ≤ 8) → (p : ℕ) → countFrom p (take (len - 1) new) ≤ 8
   crowds-left each p = omega (arith, each p, ap (countFrom p) (taken .entries), count-cons p x (take (len - 1) new))
-
--- the first of those that wait
-pub first-read : (xs : List Decided) (len : ℕ) (d : Decided) → 0 < len → len ≤ length xs → take len xs ≡ getD xs 0 d ∷ rest (take len xs)
-first-read [] len d some within = absurd (omega arith)
-first-read (x ∷ xs) zero d some within = absurd (omega arith)
-first-read (x ∷ xs) (suc len) d some within = refl

@@ -1,5 +1,5 @@
 -- A mask made port by port. Assumes nothing.
-use mathlib.Core.Path.{_≡_, ap, _∙_}
+use mathlib.Core.Path.{_≡_, ap}
 use mathlib.Core.Bool.{Bool, true, false, cond}
 use Prim.Native.Nat.{ℕ, zero, suc, _+_, _%_, _*_, _^_, _<_, _≤_}
 use native.Mathlib.Omega.{arith}

@@ -36,6 +36,15 @@ const NOTHING: Decided = Decided {
     },
 };
 
+fn first(notices: &[Decided]) -> Option<Decided>
+    ensures { λ r. ⌜ Lowest (now (notices .entry)) r ⌝ }
+{
+    if notices.len() == 0 {
+        return None;
+    }
+    Some(notices[0])
+}
+
 impl Waiting {
     pub(crate) fn new() -> Waiting
         ensures { λ r. ⌜ waitingOf r ≡ [] ⌝ }
@@ -77,10 +86,7 @@ impl Waiting {
     pub(crate) fn lowest(&self) -> Option<Decided>
         ensures { λ r. ⌜ Lowest (waitingOf (now (self .entry))) r ⌝ }
     {
-        if self.len == 0 {
-            return None;
-        }
-        Some(self.notices[0])
+        first(self.list())
     }
 
     // The lowest leaves.

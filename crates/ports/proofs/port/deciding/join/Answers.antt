@@ -1,4 +1,4 @@
-use mathlib.Core.Path.{_≡_, refl, sym, subst, _∙_}
+use mathlib.Core.Path.{refl, sym, subst, _∙_}
 use Prim.Native.Nat.{_+_}
 use Rattle.batches.proofs.Walks.{no-decided}
 use Rattle.model.specs.Batches.{sentTo}

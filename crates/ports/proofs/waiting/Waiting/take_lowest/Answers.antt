@@ -1,9 +1,8 @@
 use mathlib.Core.Path.{_≡_, ap, sym, subst, _∙_}
 use mathlib.Core.List.{_∷_}
 use native.Mathlib.Omega.{arith}
-use Prim.Native.Nat.{ℕ, _<_, _≤_}
-use Rattle.std.specs.declared.option.Option.{Option}
-use Rattle.std.specs.declared.option.Option.the-variants.{Some, None}
+use Prim.Native.Nat.{ℕ}
+use Rattle.std.specs.declared.option.Option.the-variants.{Some}
 use Rattle.records.specs.Keys.{decidedBefore}
 use Rattle.records.specs.declared.notice.Decided.{Decided}
 use Rattle.ordered.specs.Lists.{Taken}
