@@ -121,3 +121,34 @@ fn one_order_on_a_bag() -> Result<(), Fail> {
     one_order(BagWire::new(), FirstCome::new(), Outcome::Clash)?;
     one_order(BagWire::new(), Queue::new(), Outcome::Waits)
 }
+
+// Port 0 clears at 100, so that port 1 releases its own notice about 9, stamped 95. What port 0 then decides is stamped above its
+// clearance, whatever its dispatcher's clock reads: both ports release 9 and then 7.
+#[test]
+fn a_clearance_raises_the_floor() -> Result<(), Fail> {
+    let Ok(reach) = Reach::new(&[2, 1]) else {
+        return Err(Fail::new("no table"));
+    };
+    let mut net = Net::open(reach, RowWire::new(), FirstCome::new());
+    let mut working = [NOTHING; 16];
+    check_eq(
+        net.clear(0, 100),
+        Ok(Pair {
+            clock: 100,
+            step: 0,
+        }),
+    )?;
+    check_eq(net.fetch(1, 0), Ok(()))?;
+    check_eq(net.hand_in(1, 0, 95, 3, 0, 4, 1, 9), Ok(1))?;
+    check_eq(net.decide(1, 0, [1, 0, 0, 0], &mut working), Ok((1, 1)))?;
+    check_eq(released(&mut net, 1), Ok((95, 0, 1, 9, Outcome::Alongside)))?;
+    check_eq(net.hand_in(0, 0, 90, 3, 0, 4, 1, 7), Ok(1))?;
+    check_eq(net.decide(0, 0, [1, 0, 0, 0], &mut working), Ok((1, 1)))?;
+    check_eq(net.fetch(0, 1), Ok(()))?;
+    // the last word of port 1 is not held by the clearance that it brought along
+    check_eq(released(&mut net, 0), Ok((95, 0, 1, 9, Outcome::Alongside)))?;
+    check_eq(released(&mut net, 0), Err(NetFault::Held(Mask { bits: 2 })))?;
+    check_eq(net.fetch(1, 0), Ok(()))?;
+    check_eq(released(&mut net, 1), Ok((100, 1, 0, 7, Outcome::Clash)))?;
+    check_eq(net.vessel_at(1, 0, 4, 0), 9)
+}
