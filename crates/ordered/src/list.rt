@@ -11,7 +11,7 @@ pub struct Full;
 
 // The place of the first entry that `x` is before, or the place behind them all.
 fn place<T: Entry>(entries: &[T], x: &T) -> usize
-    ensures { Place before x.now entries.now result }
+    ensures { Place T.before x.now entries.now result }
 {
     for (i, e) in entries.iter().enumerate() {
         if x.is_before(e) {
@@ -36,8 +36,8 @@ fn push_front<T: Copy>(places: &mut [T], x: T)
 // Puts `x` at its place `at`; the entries from there on move one place on.
 fn put<T: Entry>(places: &mut [T], len: usize, at: usize, x: T)
     requires room { len < length places.old }
-    requires place { Place before x (take len places.old) at }
-    ensures { Put key before x len at places.old places.new }
+    requires place { Place T.before x (take len places.old) at }
+    ensures { Put T.key T.before x len at places.old places.new }
 {
     push_front(&mut places[at..len + 1], x);
 }
@@ -46,7 +46,7 @@ fn put<T: Entry>(places: &mut [T], len: usize, at: usize, x: T)
 fn shift<T: Entry>(places: &mut [T], len: usize) -> T
     requires some { 0 < len }
     requires within { len ≤ length places.old }
-    ensures { Taken before result len places.old places.new }
+    ensures { Taken T.before result len places.old places.new }
 {
     let first = places[0];
     places[0..len].rotate_left(1);
@@ -56,7 +56,7 @@ fn shift<T: Entry>(places: &mut [T], len: usize) -> T
 // Puts `x` in front of the first entry that it is before, behind those with its own key, and answers the place. Of n
 // entries each is compared at most once and moved at most once.
 pub fn insert<T: Entry>(places: &mut [T], len: usize, x: T) -> Result<usize, Full>
-    ensures { Insertion key before x len places.old places.new result }
+    ensures { Insertion T.key T.before x len places.old places.new result }
 {
     if places.len() <= len {
         return Err(Full);
@@ -68,7 +68,7 @@ pub fn insert<T: Entry>(places: &mut [T], len: usize, x: T) -> Result<usize, Ful
 
 // Takes the first entry. It is left in the place that is spare from then on, behind the others.
 pub fn take_first<T: Entry>(places: &mut [T], len: usize) -> Option<T>
-    ensures { Taking before len places.old places.new result }
+    ensures { Taking T.before len places.old places.new result }
 {
     if len == 0 || places.len() < len {
         return None;

@@ -5,6 +5,6 @@ use Rattle.answers.proofs.line.head.Goals as goal
 
 pub returns : goal.returns
 returns c = record {
-  text = all_added (head_text c.args.place c.args.letter) c.new-text.ensures (then_added c.add-number.ensures.added (then_added c.add-byte.ensures c.add-byte-2.ensures));
-  short = omega (arith, c.new-text.ensures, c.add-number.ensures.short, c.add-byte.ensures.count, c.add-byte-2.ensures.count);
+  text = all_added (head_text c.args.place c.args.letter) c.new-text.ensures (then_added c.add_number.ensures.added (then_added c.add_byte.ensures c.add_byte-2.ensures));
+  short = omega (arith, c.new-text.ensures, c.add_number.ensures.short, c.add_byte.ensures.count, c.add_byte-2.ensures.count);
 }

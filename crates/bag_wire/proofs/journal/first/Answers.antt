@@ -11,15 +11,15 @@ loop-i-preserved c k d h =
     let i = c.loop-i.i in
     let f = on c.args.from c.args.to in
     ⊎_elim
-    (λ (e : k ≡ i). ap (λ j. f (get_or es j d)) e ∙ ap f (get_or_default es i d blank c.loop-i-test.true) ∙ sym c.if-is-on.ensures)
+    (λ (e : k ≡ i). ap (λ j. f (get_or es j d)) e ∙ ap f (get_or_default es i d blank c.loop-i-test.true) ∙ sym c.if-is_on.ensures)
     (λ (ne : k ≡ i → ⊥). c.loop-i.invariant k d (omega arith))
     (cases_eq k i)
 
-pub returns-then-is-on : goal.returns-then-is-on
-returns-then-is-on c = record {
+pub returns-then-is_on : goal.returns-then-is_on
+returns-then-is_on c = record {
   within = c.loop-i-test.true;
   before = c.loop-i.invariant;
-  here = λ d. ap (on c.args.from c.args.to) (get_or_default c.args.entries.now c.loop-i.i d blank c.loop-i-test.true) ∙ sym c.if-is-on.ensures;
+  here = λ d. ap (on c.args.from c.args.to) (get_or_default c.args.entries.now c.loop-i.i d blank c.loop-i-test.true) ∙ sym c.if-is_on.ensures;
 }
 
 pub returns : goal.returns

@@ -6,7 +6,7 @@ use Rattle.bag_wire.specs.declared.entry.Entry.{Entry}
 use Rattle.bag_wire.specs.Journals.{on, marked}
 use Rattle.bag_wire.proofs.JournalLaws.{blank}
 use Rattle.bag_wire.proofs.journal.mark.Goals as goal
-use Rattle.bag_wire.proofs.journal.mark.Goals.{then-is-on, else-is-on}
+use Rattle.bag_wire.proofs.journal.mark.Goals.{then-is_on, else-is_on}
 
 pub loop-e-preserved : goal.loop-e-preserved
 loop-e-preserved c =
@@ -17,9 +17,9 @@ loop-e-preserved c =
     let x = get_or ys i blank in
     let now : Entry = record { from = x.from; to = x.to; item = x.item; arrived = true } in
     let step = map_over_more (marked p q) c.args.entries.now ys i x c.loop-e-test.true c.loop-e.invariant (get_or_default ys i blank x (omega arith)) in
-    elim c.if-is-on.branch [
-      | then-is-on w ↦ w.entries-is ∙ ap (set ys i) (sym (cond-true (on p q x) now x (sym w.if-is-on.ensures))) ∙ step
-      | else-is-on w ↦ w.entries-is ∙ ap (set ys i) (sym (cond-false (on p q x) now x (sym w.if-is-on.ensures))) ∙ step
+    elim c.if-is_on.branch [
+      | then-is_on w ↦ w.entries-is ∙ ap (set ys i) (sym (cond-true (on p q x) now x (sym w.if-is_on.ensures))) ∙ step
+      | else-is_on w ↦ w.entries-is ∙ ap (set ys i) (sym (cond-false (on p q x) now x (sym w.if-is_on.ensures))) ∙ step
     ]
 
 pub returns : goal.returns

@@ -23,16 +23,16 @@ counted c =
           (w.bits-is ∙ sym (cond-false (named bits p) (bits - 2 ^ p) bits is), omega (arith, w.bits-is))
     ]
 
-pub overflow-shl-bits : goal.overflow-shl-bits
-overflow-shl-bits c = named_low c.args.mask.bits c.args.port (omega arith) (sym c.if-names.ensures)
+pub overflow_shl-bits : goal.overflow_shl-bits
+overflow_shl-bits c = named_low c.args.mask.bits c.args.port (omega arith) (sym c.if-names.ensures)
 
-pub overflow-sub-bits : goal.overflow-sub-bits
-overflow-sub-bits c =
+pub overflow_sub-bits : goal.overflow_sub-bits
+overflow_sub-bits c =
     let is = sym c.if-names.ensures in
     omega (arith, bit_is c.args.port (named_low c.args.mask.bits c.args.port (omega arith) is), bit_within c.args.mask.bits c.args.port is)
 
-pub overflow-cast-result : goal.overflow-cast-result
-overflow-cast-result c = omega (arith, few_ones c.if-names.bits (counted c).1)
+pub overflow_cast-result : goal.overflow_cast-result
+overflow_cast-result c = omega (arith, few_ones c.if-names.bits (counted c).1)
 
 pub returns : goal.returns
 returns c = record { value = ap ones (counted c).0; few = few_ones c.if-names.bits (counted c).1 }

@@ -6,24 +6,24 @@ use Rattle.events.specs.Answers.{Answers}
 use Rattle.events.specs.Fields.{read_at, table}
 use Rattle.events.proofs.behind.open_stream.Goals as goal
 
-pub returns-in-err-field : goal.returns-in-err-field
-returns-in-err-field c =
+pub returns-in_err-field : goal.returns-in_err-field
+returns-in_err-field c =
     let p = err_from_is_err_and c.from-residual.result c.from-residual.ensures.1 in
     let s = c.args.stream.now in
     let t = c.new-reader.result.stream.now in
     let first : read_at s 0 ≡ read_at t c.new-reader.result.place = ap (λ x. read_at x 0) (sym c.new-reader.ensures.stream) ∙ ap (read_at t) (sym c.new-reader.ensures.place) in
-    rw (p.1, p.2) (first ∙ c.in-err-field.ensures.answers.0)
+    rw (p.1, p.2) (first ∙ c.in_err-field.ensures.answers.0)
 
-pub returns-in-err-table : goal.returns-in-err-table
-returns-in-err-table c =
-    let p = err_from_is_err_and c.from-residual-in-err-table.result c.from-residual-in-err-table.ensures.1 in
+pub returns-in_err-table : goal.returns-in_err-table
+returns-in_err-table c =
+    let p = err_from_is_err_and c.from-residual-in_err-table.result c.from-residual-in_err-table.ensures.1 in
     let s = c.args.stream.now in
     let t = c.new-reader.result.stream.now in
     let k = c.new-reader.result.place in
     let q = c.next.new.self.place in
     let first : read_at s 0 ≡ read_at t k = ap (λ x. read_at x 0) (sym c.new-reader.ensures.stream) ∙ ap (read_at t) (sym c.new-reader.ensures.place) in
-    let found = subst (λ o. Answers (read_at t k) k q (Ok o)) (c.in-Some.is ∙ ap Some c.in-Table.is) c.in-ok-field.ensures.answers in
-    rw (p.1, p.2) (c.in-Table.masks.now, q, first ∙ found, c.in-err-table.ensures)
+    let found = subst (λ o. Answers (read_at t k) k q (Ok o)) (c.in-Some.is ∙ ap Some c.in-Table.is) c.in_ok-field.ensures.answers in
+    rw (p.1, p.2) (c.in-Table.masks.now, q, first ∙ found, c.in_err-table.ensures)
 
 pub returns : goal.returns
 returns c =
@@ -31,10 +31,10 @@ returns c =
     let t = c.new-reader.result.stream.now in
     let k = c.new-reader.result.place in
     let q = c.next.new.self.place in
-    let r = c.in-ok-table.table in
+    let r = c.in_ok-table.table in
     let first : read_at s 0 ≡ read_at t k = ap (λ x. read_at x 0) (sym c.new-reader.ensures.stream) ∙ ap (read_at t) (sym c.new-reader.ensures.place) in
-    let found = subst (λ o. Answers (read_at t k) k q (Ok o)) (c.in-Some.is ∙ ap Some c.in-Table.is) c.in-ok-field.ensures.answers in
-    let held = holds_bytes r.ports r.masks r.places r.count.1 c.in-Table.masks.now c.in-ok-table.ensures in
+    let found = subst (λ o. Answers (read_at t k) k q (Ok o)) (c.in-Some.is ∙ ap Some c.in-Table.is) c.in_ok-field.ensures.answers in
+    let held = holds_bytes r.ports r.masks r.places r.count.1 c.in-Table.masks.now c.in_ok-table.ensures in
     record {
       first = first ∙ found ∙ ap (λ m. table m q) (sym held) ∙ ap (table (mask_bytes r.ports r.masks)) (sym c.place.ensures);
       sound = sound_bytes r.ports r.masks r.places r.count.1 r.count.0 r.sound;

@@ -10,10 +10,10 @@ returns g c =
     let old = c.args.places.now in
     let len = c.args.len in
     let x = c.index-places-0.result in
-    let part = c.rotate-left.new.self in
+    let part = c.rotate_left.new.self in
     let some : 0 < len = omega arith in
     let le : len ≤ length old = omega arith in
     let z : len - 0 ≡ len = omega arith in
-    let is : part ≡ drop 1 (take len old) ++ take 1 (take len old) = subst (λ n. part ≡ drop 1 (take n old) ++ take 1 (take n old)) z c.rotate-left.ensures.after in
+    let is : part ≡ drop 1 (take len old) ++ take 1 (take len old) = subst (λ n. part ≡ drop 1 (take n old) ++ take 1 (take n old)) z c.rotate_left.ensures.after in
     let read = c.index-places-0.is in
     subst (λ n. Taken before x len old (part ++ drop n old)) (sym z) (taken_out before x len old (part ++ drop len old) some le (turned_take old len x some le read part is) (turned_drop old len x some le read part is))

@@ -3,4 +3,4 @@ use Rattle.pages.proofs.Paging.{added}
 use Rattle.pages.proofs.page.add.Goals as goal
 
 pub returns : goal.returns
-returns c = added c.in-Ok.len c.extend-from-slice.result (vec_items c.args.page.now) (vec_items c.extend-from-slice.new.self) c.in-Ok.ensures.printed c.extend-from-slice.ensures.items
+returns c = added c.in-Ok.len c.extend_from_slice.result (vec_items c.args.page.now) (vec_items c.extend_from_slice.new.self) c.in-Ok.ensures.printed c.extend_from_slice.ensures.items

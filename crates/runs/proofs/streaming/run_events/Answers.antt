@@ -9,14 +9,14 @@ use Rattle.runs.proofs.streaming.run_events.Goals as goal
 pub fields-init : goal.fields-init
 fields-init g c = (refl, refl, went_none c.requires.1 c.requires.0)
 
-pub returns-in-err-run-next : goal.returns-in-err-run-next
-returns-in-err-run-next g c =
+pub returns-in_err-run_next : goal.returns-in_err-run_next
+returns-in_err-run_next g c =
     let seen = view g.W.Wire.line g.B.Board.shown in
     let s = c.args.events.now.stream.now in
     let p = c.fields.events.place in
-    let f = c.in-err-run-next.field-0.0 in
+    let f = c.in_err-run_next.field-0.0 in
     let e = handed_on {f = f} c.from-residual.result c.from-residual.ensures.1 in
-    let turn = subst (λ x. TurnAnswers g.W.Wire.depth g.B.Board.rule x p (vec_items c.fields.answers) (seen c.fields.net) c.run-next.new.events.place (vec_items c.run-next.new.answers) (seen c.run-next.new.net) (Err f)) c.fields.invariant.0 c.in-err-run-next.ensures.turn in
+    let turn = subst (λ x. TurnAnswers g.W.Wire.depth g.B.Board.rule x p (vec_items c.fields.answers) (seen c.fields.net) c.run_next.new.events.place (vec_items c.run_next.new.answers) (seen c.run_next.new.net) (Err f)) c.fields.invariant.0 c.in_err-run_next.ensures.turn in
     record {
       table = ap (λ v. v.table) turn.2 ∙ c.fields.invariant.1;
       ran = ended c.fields.invariant.2 (subst (Ends s p) (sym e) turn.0) turn.1 turn.2;
@@ -26,18 +26,18 @@ pub returns-then-not-branch : goal.returns-then-not-branch
 returns-then-not-branch g c =
     let seen = view g.W.Wire.line g.B.Board.shown in
     let p = c.fields.events.place in
-    let answered = λ (x : List ℕ) (b : Bool). TurnAnswers g.W.Wire.depth g.B.Board.rule x p (vec_items c.fields.answers) (seen c.fields.net) c.run-next.new.events.place (vec_items c.run-next.new.answers) (seen c.run-next.new.net) (Ok b) in
-    let turn = subst (answered c.args.events.now.stream.now) c.if-not-branch.true (subst (λ x. answered x c.in-ok-run-next.field-0) c.fields.invariant.0 c.in-ok-run-next.ensures.turn) in
+    let answered = λ (x : List ℕ) (b : Bool). TurnAnswers g.W.Wire.depth g.B.Board.rule x p (vec_items c.fields.answers) (seen c.fields.net) c.run_next.new.events.place (vec_items c.run_next.new.answers) (seen c.run_next.new.net) (Ok b) in
+    let turn = subst (answered c.args.events.now.stream.now) c.if-not-branch.true (subst (λ x. answered x c.in_ok-run_next.field-0) c.fields.invariant.0 c.in_ok-run_next.ensures.turn) in
     record {
       table = ap (λ v. v.table) turn.2 ∙ c.fields.invariant.1;
       ran = ended c.fields.invariant.2 turn.0 turn.1 turn.2;
     }
 
-turned : (g : given.Over) (c : goal.Else-not-branch g) → Turned g.W.Wire.depth g.B.Board.rule c.args.events.now.stream.now c.fields.events.place (vec_items c.fields.answers) (view g.W.Wire.line g.B.Board.shown c.fields.net) c.run-next.new.events.place (vec_items c.run-next.new.answers) (view g.W.Wire.line g.B.Board.shown c.run-next.new.net)
+turned : (g : given.Over) (c : goal.Else-not-branch g) → Turned g.W.Wire.depth g.B.Board.rule c.args.events.now.stream.now c.fields.events.place (vec_items c.fields.answers) (view g.W.Wire.line g.B.Board.shown c.fields.net) c.run_next.new.events.place (vec_items c.run_next.new.answers) (view g.W.Wire.line g.B.Board.shown c.run_next.new.net)
 turned g c =
     let seen = view g.W.Wire.line g.B.Board.shown in
-    let answered = λ (x : List ℕ) (b : Bool). TurnAnswers g.W.Wire.depth g.B.Board.rule x c.fields.events.place (vec_items c.fields.answers) (seen c.fields.net) c.run-next.new.events.place (vec_items c.run-next.new.answers) (seen c.run-next.new.net) (Ok b) in
-    subst (answered c.args.events.now.stream.now) c.if-not-branch.false (subst (λ x. answered x c.in-ok-run-next.field-0) c.fields.invariant.0 c.in-ok-run-next.ensures.turn)
+    let answered = λ (x : List ℕ) (b : Bool). TurnAnswers g.W.Wire.depth g.B.Board.rule x c.fields.events.place (vec_items c.fields.answers) (seen c.fields.net) c.run_next.new.events.place (vec_items c.run_next.new.answers) (seen c.run_next.new.net) (Ok b) in
+    subst (answered c.args.events.now.stream.now) c.if-not-branch.false (subst (λ x. answered x c.in_ok-run_next.field-0) c.fields.invariant.0 c.in_ok-run_next.ensures.turn)
 
 pub fields-smaller : goal.fields-smaller
 fields-smaller g c = let t = turned g c in omega (arith, t.onward, t.within)
@@ -45,4 +45,4 @@ fields-smaller g c = let t = turned g c in omega (arith, t.onward, t.within)
 pub fields-preserved : goal.fields-preserved
 fields-preserved g c =
     let t = turned g c in
-    (c.run-next.ensures.stream ∙ c.fields.invariant.0, table_on c.fields.invariant.2 t ∙ c.fields.invariant.1, went_on c.fields.invariant.2 t)
+    (c.run_next.ensures.stream ∙ c.fields.invariant.0, table_on c.fields.invariant.2 t ∙ c.fields.invariant.1, went_on c.fields.invariant.2 t)

@@ -3,19 +3,19 @@ use Rattle.events.specs.Fields.{read_at}
 use Rattle.events.specs.Streams.{EventAnswers}
 use Rattle.runs.proofs.streaming.run_next.Goals as goal
 
-pub returns-then-is-err : goal.returns-then-is-err
-returns-then-is-err g c =
+pub returns-then-is_err : goal.returns-then-is_err
+returns-then-is_err g c =
     let s = c.args.events.now.stream.now in
     let p = c.args.events.now.place in
     let q = c.next.new.self.place in
-    let found = subst (λ o. EventAnswers (read_at s p) p q (Ok o)) c.in-Some.is c.in-ok-event.ensures.answers in
+    let found = subst (λ o. EventAnswers (read_at s p) p q (Ok o)) c.in-Some.is c.in_ok-event.ensures.answers in
     record {
       stream = c.next.ensures.stream;
       turn = ((c.place-at.ensures, (c.in-Some.event, q, ap (read_at s) c.place-at.ensures ∙ found.0)), c.reserve.ensures.items, refl);
     }
 
-pub returns-in-err-event : goal.returns-in-err-event
-returns-in-err-event g c = ?
+pub returns-in_err-event : goal.returns-in_err-event
+returns-in_err-event g c = ?
 
 pub returns-in-None : goal.returns-in-None
 returns-in-None g c = ?

@@ -5,7 +5,7 @@ use Rattle.runs.proofs.streaming.run_stream.Goals as goal
 
 pub returns : goal.returns
 returns g c =
-    let r = c.run-events-end in
+    let r = c.run_events-end in
     let ran = λ (s : List ℕ) (p : ℕ). RanEvents g.W.Wire.depth g.B.Board.rule s p (vec_items r.new.answers) r.result (view g.W.Wire.line g.B.Board.shown r.new.net) in
     record {
       table = c.in-Ok.opened.table;

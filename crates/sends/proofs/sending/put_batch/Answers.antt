@@ -9,8 +9,8 @@ use Rattle.sends.proofs.sending.put_batch.Goals as goal
 pub loop-notice-init : goal.loop-notice-init
 loop-notice-init g c = (grown_nothing (g.W.Wire.line c.args.wire.now) c.args.port, c.requires)
 
-pub put-copies-requires : goal.put-copies-requires
-put-copies-requires g c =
+pub put_copies-requires : goal.put_copies-requires
+put_copies-requires g c =
     let m = g.W.Wire in
     next_room m.depth (m.line c.args.wire.now) (m.line c.loop-notice.wire) c.args.port c.args.notices.now c.loop-notice.notice-index no_decided c.loop-notice-test.true c.loop-notice.invariant.1
 
@@ -18,7 +18,7 @@ pub loop-notice-preserved : goal.loop-notice-preserved
 loop-notice-preserved g c =
     let m = g.W.Wire in
     let inv = c.loop-notice.invariant in
-    next_done m.depth (m.line c.args.wire.now) (m.line c.loop-notice.wire) c.args.port c.args.notices.now c.loop-notice.notice-index no_decided c.loop-notice-test.true inv.1 (m.line c.put-copies.new.wire) inv.0 c.put-copies.ensures
+    next_done m.depth (m.line c.args.wire.now) (m.line c.loop-notice.wire) c.args.port c.args.notices.now c.loop-notice.notice-index no_decided c.loop-notice-test.true inv.1 (m.line c.put_copies.new.wire) inv.0 c.put_copies.ensures
 
 pub returns : goal.returns
 returns g c =

@@ -5,7 +5,7 @@ use Rattle.wires.proofs.Growths.{below}
 use Rattle.wires.proofs.LineLaws.{put_since_space}
 use Rattle.sends.proofs.Copies.{copies, gets, first_none, first_all, first_skip, first_put, first_space}
 use Rattle.sends.proofs.sending.put_copies.Goals as goal
-use Rattle.sends.proofs.sending.put_copies.Goals.{then-is-copied, else-is-copied}
+use Rattle.sends.proofs.sending.put_copies.Goals.{then-is_copied, else-is_copied}
 
 pub loop-to-init : goal.loop-to-init
 loop-to-init g c = first_none c.args.port c.args.notice (g.W.Wire.line c.args.wire.now)
@@ -19,13 +19,13 @@ loop-to-preserved g c =
     let d = c.args.notice in
     let n = c.loop-to.to in
     let inv = c.loop-to.invariant in
-    elim c.if-is-copied.branch [
-      | then-is-copied w ↦
+    elim c.if-is_copied.branch [
+      | then-is_copied w ↦
           let new = m.line w.put.new.self in
-          let on : gets a d n ≡ true = sym {b = gets a d n} w.if-is-copied.ensures in
+          let on : gets a d n ≡ true = sym {b = gets a d n} w.if-is_copied.ensures in
           let t = put_since_space m.depth mid new a n (Carries d) w.put.result w.put.ensures (first_space a d old mid n inv m.depth c.requires on (omega (arith, c.loop-to-test.true))) in
           subst (λ v. Grown old (m.line v) (below (n + 1) (copies a d))) (sym w.wire-is) (first_put a d old mid n inv m.depth new on t)
-      | else-is-copied w ↦ subst (λ v. Grown old (m.line v) (below (n + 1) (copies a d))) (sym w.wire-is) (first_skip a d old mid n inv (sym {b = gets a d n} w.if-is-copied.ensures))
+      | else-is_copied w ↦ subst (λ v. Grown old (m.line v) (below (n + 1) (copies a d))) (sym w.wire-is) (first_skip a d old mid n inv (sym {b = gets a d n} w.if-is_copied.ensures))
     ]
 
 pub returns : goal.returns

@@ -7,13 +7,13 @@ use Rattle.streams.proofs.stream.read_events.Goals as goal
 pub fields-init : goal.fields-init
 fields-init c = (refl, subst (λ es. Says c.args.reader.now.stream.now c.args.reader.now.place es c.args.reader.now.place) (sym c.new-events.ensures.items) (none c.args.reader.now.place))
 
-pub returns-then-is-err : goal.returns-then-is-err
-returns-then-is-err c =
+pub returns-then-is_err : goal.returns-then-is_err
+returns-then-is_err c =
     let s = c.args.reader.now.stream.now in
     let p = c.fields.reader.place in
     let q = c.next.new.self.place in
     let e = c.in-Some.event in
-    let told = subst (λ o. EventAnswers (read_at c.fields.reader.stream.now p) p q (Ok o)) c.in-Some.is c.in-ok-event.ensures.answers in
+    let told = subst (λ o. EventAnswers (read_at c.fields.reader.stream.now p) p q (Ok o)) c.in-Some.is c.in_ok-event.ensures.answers in
     let found : read_at s p ≡ event e q = ap (λ t. read_at t p) (sym c.fields.invariant.0) ∙ told.0 in
     let here : p ≡ c.place-place.result = sym c.place-place.ensures in
     record {
@@ -28,9 +28,9 @@ fields-preserved c =
     let p = c.fields.reader.place in
     let q = c.next.new.self.place in
     let e = c.in-Some.event in
-    let told = subst (λ o. EventAnswers (read_at c.fields.reader.stream.now p) p q (Ok o)) c.in-Some.is c.in-ok-event.ensures.answers in
+    let told = subst (λ o. EventAnswers (read_at c.fields.reader.stream.now p) p q (Ok o)) c.in-Some.is c.in_ok-event.ensures.answers in
     let found : read_at s p ≡ event e q = ap (λ t. read_at t p) (sym c.fields.invariant.0) ∙ told.0 in
-    let items : vec_items c.push.new.self ≡ vec_items c.fields.events ++ (e ∷ []) = c.push.ensures.items ∙ ap (λ b. cond b (vec_items c.fields.events ++ (e ∷ [])) (vec_items c.fields.events)) c.if-is-err.ensures.negation in (
+    let items : vec_items c.push.new.self ≡ vec_items c.fields.events ++ (e ∷ []) = c.push.ensures.items ∙ ap (λ b. cond b (vec_items c.fields.events ++ (e ∷ [])) (vec_items c.fields.events)) c.if-is_err.ensures.negation in (
       c.next.ensures.stream ∙ c.fields.invariant.0,
       subst (λ es. Says s c.args.reader.now.place es q) (sym items) (says_more s c.args.reader.now.place p q (vec_items c.fields.events) e c.fields.invariant.1 found),
     )

@@ -10,6 +10,6 @@ returns c =
     let s = c.args.stream.now in
     let o = c.in-Ok.opened in
     let masks = mask_bytes o.table.ports o.table.masks in
-    let es = vec_items c.in-ok-events.events in
-    let rest = subst (λ x. SaysRest x o.behind es) c.events.ensures.stream (subst (λ k. SaysRest c.events.result.stream.now k es) c.events.ensures.place c.in-ok-events.ensures) in
+    let es = vec_items c.in_ok-events.events in
+    let rest = subst (λ x. SaysRest x o.behind es) c.events.ensures.stream (subst (λ k. SaysRest c.events.result.stream.now k es) c.events.ensures.place c.in_ok-events.ensures) in
     subst (λ (t : Reach). ReadWhole s (mask_bytes t.ports t.masks) es) (sym c.table.ensures) (read_whole s masks es (λ i. omega (arith, c.type-inv.stream i)) (accepted_from s masks es o.behind c.in-Ok.ensures rest))

@@ -8,7 +8,7 @@ returns c =
     let e = c.requires in
     let bytes = decide_bytes c.args.port c.args.number cuts e in
     record {
-      bytes = simp (c.to-be-bytes.ensures, c.to-be-bytes-2.ensures, c.to-be-bytes-3.ensures, c.to-be-bytes-4.ensures, c.to-be-bytes-5.ensures) (sym bytes);
+      bytes = simp (c.to_be_bytes.ensures, c.to_be_bytes-2.ensures, c.to_be_bytes-3.ensures, c.to_be_bytes-4.ensures, c.to_be_bytes-5.ensures) (sym bytes);
       len = (sym (ap length bytes), lit≤ tt, refl);
       fit = (omega arith, omega arith, e, λ i. omega (arith, c.type-inv.cuts i));
     }

@@ -6,4 +6,4 @@ pub returns : goal.returns
 returns c =
     let field = c.args.field.now in
     let e : field.len - 0 ≡ field.len = omega arith in
-    record { end = refl; after = put_is c.args.out.now c.copy-from-slice.new.self (take field.len field.bytes) c.args.at field.len (c.copy-from-slice.ensures.after ∙ ap (λ n. take n field.bytes) e) }
+    record { end = refl; after = put_is c.args.out.now c.copy_from_slice.new.self (take field.len field.bytes) c.args.at field.len (c.copy_from_slice.ensures.after ∙ ap (λ n. take n field.bytes) e) }

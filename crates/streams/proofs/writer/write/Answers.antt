@@ -13,7 +13,7 @@ pub put-at-requires : goal.put-at-requires
 put-at-requires c =
     let t = c.args.table.now in
     let part = table_part (mask_bytes t.ports t.masks) c.args.events.now in
-    let len = c.encode-table.ensures.len in
+    let len = c.encode_table.ensures.len in
     let all = c.in-Some.ensures.0 in
     record { whole = omega arith; room = omega arith }
 
@@ -24,8 +24,8 @@ loop-event-init c =
     let none = stream_none masks in
     let r = c.put-at.result in
     let out = c.put-at.new.out in
-    let len : r ≡ length (table_bytes masks) = omega (arith, c.put-at.ensures.end, c.encode-table.ensures.len) in
-    let first = c.put-at.ensures.after ∙ ap (λ w. w ++ drop r c.args.out.now) c.encode-table.ensures.bytes in
+    let len : r ≡ length (table_bytes masks) = omega (arith, c.put-at.ensures.end, c.encode_table.ensures.len) in
+    let first = c.put-at.ensures.after ∙ ap (λ w. w ++ drop r c.args.out.now) c.encode_table.ensures.bytes in
     let same : drop r out ≡ drop r c.args.out.now = behind_first c.args.out.now (table_bytes masks) out r r len first (omega arith) in
     (len ∙ ap length (sym none), first ∙ ap (λ w. table_bytes masks ++ w) (sym same) ∙ ap (λ w. w ++ drop r out) (sym none), tt)
 
@@ -67,8 +67,8 @@ returns c =
     let i = c.loop-event.event-index in
     let all = stream_all masks es i c.loop-event-test.false in
     let n : c.loop-event.at ≡ length (stream_of masks es) = c.loop-event.invariant.0 ∙ ap length all in
-    let len : c.put-at.result ≡ length (table_bytes masks) = omega (arith, c.put-at.ensures.end, c.encode-table.ensures.len) in
-    let first = c.put-at.ensures.after ∙ ap (λ w. w ++ drop c.put-at.result c.args.out.now) c.encode-table.ensures.bytes in
+    let len : c.put-at.result ≡ length (table_bytes masks) = omega (arith, c.put-at.ensures.end, c.encode_table.ensures.len) in
+    let first = c.put-at.ensures.after ∙ ap (λ w. w ++ drop c.put-at.result c.args.out.now) c.encode_table.ensures.bytes in
     let behind : drop c.loop-event.at c.put-at.new.out ≡ drop c.loop-event.at c.args.out.now = behind_first c.args.out.now (table_bytes masks) c.put-at.new.out c.put-at.result c.loop-event.at len first (omega (arith, table_part masks es)) in
     let fit : All Fit es = subst (All Fit) (take_all i es c.loop-event-test.false) c.loop-event.invariant.2 in
     let short = c.in-Some.ensures in

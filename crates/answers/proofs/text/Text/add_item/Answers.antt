@@ -3,4 +3,4 @@ use Rattle.answers.proofs.Pieces.{then_added}
 use Rattle.answers.proofs.text.Text.add_item.Goals as goal
 
 pub returns : goal.returns
-returns c = record { added = then_added c.add-byte.ensures c.add-number.ensures.added; short = omega (arith, c.add-byte.ensures.count) }
+returns c = record { added = then_added c.add_byte.ensures c.add_number.ensures.added; short = omega (arith, c.add_byte.ensures.count) }

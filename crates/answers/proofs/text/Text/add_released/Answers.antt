@@ -6,5 +6,5 @@ use Rattle.answers.proofs.text.Text.add_released.Goals as goal
 
 pub returns : goal.returns
 returns c =
-    let last = item_is space c.number.result (outcome_number c.args.outcome) c.number.ensures c.add-item-4.ensures.added in
-    record { added = then_added c.add-stamp.ensures.added (then_added c.add-item.ensures.added (then_added c.add-item-2.ensures.added (then_added c.add-item-3.ensures.added last))); short = omega arith }
+    let last = item_is space c.number.result (outcome_number c.args.outcome) c.number.ensures c.add_item-4.ensures.added in
+    record { added = then_added c.add_stamp.ensures.added (then_added c.add_item.ensures.added (then_added c.add_item-2.ensures.added (then_added c.add_item-3.ensures.added last))); short = omega arith }

@@ -6,23 +6,23 @@ use Rattle.boards.specs.ListLaws.{once_without, unlisted_without}
 use Rattle.boards.specs.BerthLaws.{said, kept_front, gone}
 use Rattle.boards.proofs.berth.Berth.leave.Goals as goal
 
-pub invariant-of-self : goal.invariant-of-self
-invariant-of-self c =
+pub invariant_of-self : goal.invariant_of-self
+invariant_of-self c =
     let b = c.args.self.now in
     let v = c.args.vessel in
-    let part = c.keep-others-self.new.vessels in
-    let r = c.keep-others-self.result in
-    let most : r ≤ length part = omega (arith, c.keep-others-self.ensures.most) in
-    let was = sym (kept_front b.vessels part (drop (b.len - 0) b.vessels) b.len r v c.keep-others-self.ensures.kept most) in
+    let part = c.keep_others-self.new.vessels in
+    let r = c.keep_others-self.result in
+    let most : r ≤ length part = omega (arith, c.keep_others-self.ensures.most) in
+    let was = sym (kept_front b.vessels part (drop (b.len - 0) b.vessels) b.len r v c.keep_others-self.ensures.kept most) in
     ((simp (length-append, length-drop) (omega arith), omega arith), (subst (λ l. once l ≡ true) was (once_without v (vessels_of b) b.apart), (subst (λ l. listed 0 l ≡ false) was (unlisted_without v 0 (vessels_of b) b.named), tt)))
 
 pub returns : goal.returns
 returns c =
     let b = c.args.self.now in
     let v = c.args.vessel in
-    let part = c.keep-others-self.new.vessels in
-    let r = c.keep-others-self.result in
-    let most : r ≤ length part = omega (arith, c.keep-others-self.ensures.most) in
+    let part = c.keep_others-self.new.vessels in
+    let r = c.keep_others-self.result in
+    let most : r ≤ length part = omega (arith, c.keep_others-self.ensures.most) in
     let there = said b v true c.if-not-lists.ensures in
     let is = sym (gone (vessels_of b) v there) in
-    record { list = kept_front b.vessels part (drop (b.len - 0) b.vessels) b.len r v c.keep-others-self.ensures.kept most ∙ ap (λ t. t.list) is; outcome = ap (λ t. t.outcome) is }
+    record { list = kept_front b.vessels part (drop (b.len - 0) b.vessels) b.len r v c.keep_others-self.ensures.kept most ∙ ap (λ t. t.list) is; outcome = ap (λ t. t.outcome) is }

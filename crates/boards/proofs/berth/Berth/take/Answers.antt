@@ -6,8 +6,8 @@ use Rattle.boards.specs.ListLaws.{once_push, unlisted_push}
 use Rattle.boards.specs.BerthLaws.{length_vessels, pushed, grows, is_alongside, waits, said}
 use Rattle.boards.proofs.berth.Berth.take.Goals as goal
 
-pub invariant-of-self : goal.invariant-of-self
-invariant-of-self c =
+pub invariant_of-self : goal.invariant_of-self
+invariant_of-self c =
     let b = c.args.self.now in
     let v = c.args.vessel in
     let few : b.len < 4 = omega arith in

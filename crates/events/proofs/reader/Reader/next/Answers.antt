@@ -3,7 +3,7 @@ use Rattle.std.proofs.lemmas.Bool.{both_ways, eqb-true, eq-eqb}
 use Rattle.events.specs.Fields.{read_value, event}
 use Rattle.events.proofs.Readings.{here, here_whole, field_end, field_loose, is_table, is_event, ends_within, passed}
 use Rattle.events.proofs.reader.Reader.next.Goals as goal
-use Rattle.events.proofs.reader.Reader.next.Goals.{else-is-empty-via-then-is-empty+else-self-gt0, else-is-empty-via-else-is-empty}
+use Rattle.events.proofs.reader.Reader.next.Goals.{else-is_empty-via-then-is_empty+else-self-gt0, else-is_empty-via-else-is_empty}
 
 pub returns-then-self-gt0 : goal.returns-then-self-gt0
 returns-then-self-gt0 c =
@@ -11,7 +11,7 @@ returns-then-self-gt0 c =
     let p = c.args.self.now.place in
     let from = c.min-from.result in
     let rest = take (length s - from) (drop from s) in
-    record { same = tt; stream = refl; onward = tt; answers = (here s p from (omega arith) c.min-from.ensures ∙ field_end p rest (eqb-true (length rest) 0 (sym c.if-is-empty.ensures)) c.if-self-gt0.true, refl) }
+    record { same = tt; stream = refl; onward = tt; answers = (here s p from (omega arith) c.min-from.ensures ∙ field_end p rest (eqb-true (length rest) 0 (sym c.if-is_empty.ensures)) c.if-self-gt0.true, refl) }
 
 pub returns-then-rest-lt3 : goal.returns-then-rest-lt3
 returns-then-rest-lt3 c =
@@ -19,9 +19,9 @@ returns-then-rest-lt3 c =
     let p = c.args.self.now.place in
     let from = c.min-from.result in
     let rest = take (length s - from) (drop from s) in
-    let first : length rest ≡ 0 → p ≡ 0 = λ z. elim c.else-is-empty.branch [
-      | else-is-empty-via-then-is-empty+else-self-gt0 w ↦ omega (arith, w.if-self-gt0.false)
-      | else-is-empty-via-else-is-empty w ↦ absurd (both_ways (eqb (length rest) 0) (sym w.if-is-empty.ensures) (eq-eqb (length rest) 0 z))
+    let first : length rest ≡ 0 → p ≡ 0 = λ z. elim c.else-is_empty.branch [
+      | else-is_empty-via-then-is_empty+else-self-gt0 w ↦ omega (arith, w.if-self-gt0.false)
+      | else-is_empty-via-else-is_empty w ↦ absurd (both_ways (eqb (length rest) 0) (sym w.if-is_empty.ensures) (eq-eqb (length rest) 0 z))
     ] in
     record { same = refl; stream = refl; onward = tt; answers = (here s p from (omega arith) c.min-from.ensures ∙ field_loose p rest c.if-rest-lt3.true first, refl) }
 
@@ -31,8 +31,8 @@ returns-in-Some c =
     let p = c.args.self.now.place in
     let from = c.min-from.result in
     let rest = take (length s - from) (drop from s) in
-    let n = c.u16-at-len.result in
-    let found = here_whole s p from (omega arith) c.min-from.ensures n c.field-fault.result c.if-rest-lt3.false c.u16-at-len.ensures c.field-fault.ensures in
+    let n = c.u16_at-len.result in
+    let found = here_whole s p from (omega arith) c.min-from.ensures n c.field_fault.result c.if-rest-lt3.false c.u16_at-len.ensures c.field_fault.ensures in
     record { same = refl; stream = refl; onward = tt; answers = (found ∙ ap (λ o. read_value o p (get_or rest 0 0) n (drop 3 rest)) c.in-Some.is, refl) }
 
 pub returns-then-tag-eq-TABLE : goal.returns-then-tag-eq-TABLE
@@ -41,9 +41,9 @@ returns-then-tag-eq-TABLE c =
     let p = c.args.self.now.place in
     let from = c.min-from.result in
     let rest = take (length s - from) (drop from s) in
-    let n = c.u16-at-len.result in
-    let found = here_whole s p from (omega arith) c.min-from.ensures n c.field-fault.result c.if-rest-lt3.false c.u16-at-len.ensures c.field-fault.ensures in
-    record { same = tt; stream = refl; onward = (omega arith, ends_within s p from (omega arith) c.min-from.ensures n c.if-rest-lt3.false (passed (eqb p 0) (get_or rest 0 0) n (length rest - 3) (sym c.field-fault.ensures ∙ c.in-default.is)).room); answers = found ∙ ap (λ o. read_value o p (get_or rest 0 0) n (drop 3 rest)) c.in-default.is ∙ is_table p (get_or rest 0 0) n (drop 3 rest) c.if-tag-eq-TABLE.true }
+    let n = c.u16_at-len.result in
+    let found = here_whole s p from (omega arith) c.min-from.ensures n c.field_fault.result c.if-rest-lt3.false c.u16_at-len.ensures c.field_fault.ensures in
+    record { same = tt; stream = refl; onward = (omega arith, ends_within s p from (omega arith) c.min-from.ensures n c.if-rest-lt3.false (passed (eqb p 0) (get_or rest 0 0) n (length rest - 3) (sym c.field_fault.ensures ∙ c.in_default.is)).room); answers = found ∙ ap (λ o. read_value o p (get_or rest 0 0) n (drop 3 rest)) c.in_default.is ∙ is_table p (get_or rest 0 0) n (drop 3 rest) c.if-tag-eq-TABLE.true }
 
 pub returns : goal.returns
 returns c =
@@ -51,6 +51,6 @@ returns c =
     let p = c.args.self.now.place in
     let from = c.min-from.result in
     let rest = take (length s - from) (drop from s) in
-    let n = c.u16-at-len.result in
-    let found = here_whole s p from (omega arith) c.min-from.ensures n c.field-fault.result c.if-rest-lt3.false c.u16-at-len.ensures c.field-fault.ensures in
-    record { same = tt; stream = refl; onward = (omega arith, ends_within s p from (omega arith) c.min-from.ensures n c.if-rest-lt3.false (passed (eqb p 0) (get_or rest 0 0) n (length rest - 3) (sym c.field-fault.ensures ∙ c.in-default.is)).room); answers = found ∙ ap (λ o. read_value o p (get_or rest 0 0) n (drop 3 rest)) c.in-default.is ∙ is_event p (get_or rest 0 0) n (drop 3 rest) c.if-tag-eq-TABLE.false ∙ ap (λ e. event e (p + (3 + n))) (sym c.event.ensures) }
+    let n = c.u16_at-len.result in
+    let found = here_whole s p from (omega arith) c.min-from.ensures n c.field_fault.result c.if-rest-lt3.false c.u16_at-len.ensures c.field_fault.ensures in
+    record { same = tt; stream = refl; onward = (omega arith, ends_within s p from (omega arith) c.min-from.ensures n c.if-rest-lt3.false (passed (eqb p 0) (get_or rest 0 0) n (length rest - 3) (sym c.field_fault.ensures ∙ c.in_default.is)).room); answers = found ∙ ap (λ o. read_value o p (get_or rest 0 0) n (drop 3 rest)) c.in_default.is ∙ is_event p (get_or rest 0 0) n (drop 3 rest) c.if-tag-eq-TABLE.false ∙ ap (λ e. event e (p + (3 + n))) (sym c.event.ensures) }

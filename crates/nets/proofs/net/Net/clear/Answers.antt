@@ -35,8 +35,8 @@ returns-in-Err g c =
       same = record { reach = refl; ports = refl; wire = refl; board = refl };
     }
 
-pub returns-in-Err-send-clearance : goal.returns-in-Err-send-clearance
-returns-in-Err-send-clearance g c =
+pub returns-in-Err-send_clearance : goal.returns-in-Err-send_clearance
+returns-in-Err-send_clearance g c =
     let n = c.args.self.now in
     let line = g.W.Wire.line in
     let shown = g.B.Board.shown in
@@ -49,17 +49,17 @@ returns-in-Err-send-clearance g c =
     let is = port_is n.ports p n.own lt c.index-self-at.result in
     let pair : c.in-Ok.pair ≡ next_pair (v.port p).floor r = c.in-Ok.ensures.0 ∙ ap (λ o. next_pair o.floor r) (sym is) in
     let fits : step_fits (next_pair (v.port p).floor r) ≡ true = ap step_fits (sym pair) ∙ c.in-Ok.ensures.1 in
-    let full : room depth (line n.wire) p (clearance_on (table_of n.reach) (clearance_stamp v p r)) ≡ false = on_lines depth (line n.wire) n.reach p c.mask-mask.result c.in-Ok.pair (next_pair (v.port p).floor r) c.mask-mask.ensures pair ∙ c.in-Err-send-clearance.ensures.1.full in
-    let same = c.in-Err-send-clearance.ensures.1.same in
+    let full : room depth (line n.wire) p (clearance_on (table_of n.reach) (clearance_stamp v p r)) ≡ false = on_lines depth (line n.wire) n.reach p c.mask-mask.result c.in-Ok.pair (next_pair (v.port p).floor r) c.mask-mask.ensures pair ∙ c.in-Err-send_clearance.ensures.1.full in
+    let same = c.in-Err-send_clearance.ensures.1.same in
     record {
       kept =
-          subst (λ w. Kept depth g.B.Board.rule v (refused (clear p r) c.in-Err-send-clearance.fault) (record { table = table_of n.reach; port = ports_of n.ports; line = line w; shown = shown n.board })) (sym same)
-          (subst (λ f. Kept depth g.B.Board.rule v (refused (clear p r) f) v) (sym c.in-Err-send-clearance.ensures.0) (kept_refused v (clear p r) LineFull (no_room depth v p r there fits full)));
+          subst (λ w. Kept depth g.B.Board.rule v (refused (clear p r) c.in-Err-send_clearance.fault) (record { table = table_of n.reach; port = ports_of n.ports; line = line w; shown = shown n.board })) (sym same)
+          (subst (λ f. Kept depth g.B.Board.rule v (refused (clear p r) f) v) (sym c.in-Err-send_clearance.ensures.0) (kept_refused v (clear p r) LineFull (no_room depth v p r there fits full)));
       same = record { reach = refl; ports = refl; wire = same; board = refl };
     }
 
-pub invariant-of-self-2 : goal.invariant-of-self-2
-invariant-of-self-2 g c =
+pub invariant_of-self-2 : goal.invariant_of-self-2
+invariant_of-self-2 g c =
     let n = c.args.self.now in
     let p = c.args.port in
     let lt = inside_table n.reach p (sym c.lacks.ensures ∙ c.if-lacks.false) in
@@ -79,14 +79,14 @@ returns g c =
     let is = port_is n.ports p n.own lt c.index-self-at.result in
     let pair : c.in-Ok.pair ≡ next_pair (v.port p).floor r = c.in-Ok.ensures.0 ∙ ap (λ o. next_pair o.floor r) (sym is) in
     let fits : step_fits (next_pair (v.port p).floor r) ≡ true = ap step_fits (sym pair) ∙ c.in-Ok.ensures.1 in
-    let free : room depth (line n.wire) p (clearance_on (table_of n.reach) (clearance_stamp v p r)) ≡ true = on_lines depth (line n.wire) n.reach p c.mask-mask.result c.in-Ok.pair (next_pair (v.port p).floor r) c.mask-mask.ensures pair ∙ c.in-Ok-send-clearance.ensures.fits in
+    let free : room depth (line n.wire) p (clearance_on (table_of n.reach) (clearance_stamp v p r)) ≡ true = on_lines depth (line n.wire) n.reach p c.mask-mask.result c.in-Ok.pair (next_pair (v.port p).floor r) c.mask-mask.ensures pair ∙ c.in-Ok-send_clearance.ensures.fits in
     record {
       kept = kept record {
         accepted = can_clear depth v p r there fits free;
         pair = pair;
         table = refl;
         ports = only_port n.ports p n.own lt c.index-self-at-2.result c.clear.new.self (after_clear c.in-Ok.pair) c.clear.ensures.view;
-        lines = subst (λ m. Grown (line n.wire) (line c.send-clearance.new.wire) (to_each p m.bits (Empty (record { pair = c.in-Ok.pair; port = p })))) c.mask-mask.ensures c.in-Ok-send-clearance.ensures.lines;
+        lines = subst (λ m. Grown (line n.wire) (line c.send_clearance.new.wire) (to_each p m.bits (Empty (record { pair = c.in-Ok.pair; port = p })))) c.mask-mask.ensures c.in-Ok-send_clearance.ensures.lines;
         boards = λ q home berth. refl;
       };
       same = tt;

@@ -37,8 +37,8 @@ returns-in-Err g c =
     let met : deciding_fault (ports_of n.ports c.args.port) x ≡ Some f = fault_is n.ports x n.own lt c.index-self-at.result ∙ c.in-Err.ensures in
     record { kept = kept_refused v (decide x) f (port_refuses g.W.Wire.depth v x there c.if-working-lt16.false f met); same = (refl, refl) }
 
-pub returns-then-not-has-room : goal.returns-then-not-has-room
-returns-then-not-has-room g c =
+pub returns-then-not-has_room : goal.returns-then-not-has_room
+returns-then-not-has_room g c =
     let n = c.args.self.now in
     let line = g.W.Wire.line n.wire in
     let depth = g.W.Wire.depth in
@@ -51,11 +51,11 @@ returns-then-not-has-room g c =
     let d = c.index-self-at.result in
     let planned : deciding_fault (ports_of n.ports p) x ≡ None = fault_is n.ports x n.own lt d ∙ plan.accepted in
     let ds : decision (ports_of n.ports p) x ≡ c.list-notices.result.now = decision_is n.ports x n.own lt d ∙ sym (c.list-notices.ensures ∙ plan.notices) in
-    let full : room depth line p (copies_on p (decision (ports_of n.ports p) x)) ≡ false = ap (λ xs. room depth line p (copies_on p xs)) ds ∙ sym c.has-room.ensures ∙ c.if-not-has-room.true in
+    let full : room depth line p (copies_on p (decision (ports_of n.ports p) x)) ≡ false = ap (λ xs. room depth line p (copies_on p xs)) ds ∙ sym c.has_room.ensures ∙ c.if-not-has_room.true in
     record { kept = kept_refused v (decide x) LineFull (no_room depth v x there c.if-working-lt16.false planned full); same = (refl, refl) }
 
-pub invariant-of-self-2 : goal.invariant-of-self-2
-invariant-of-self-2 g c =
+pub invariant_of-self-2 : goal.invariant_of-self-2
+invariant_of-self-2 g c =
     let n = c.args.self.now in
     let p = c.args.port in
     let x = deciding_call p c.args.number c.args.cuts c.args.working.now in
@@ -81,7 +81,7 @@ returns g c =
     let planned : deciding_fault (ports_of n.ports p) x ≡ None = fault_is n.ports x n.own lt d ∙ plan.accepted in
     let xs : List Decided = c.list-notices.result.now in
     let ds : decision (ports_of n.ports p) x ≡ xs = decision_is n.ports x n.own lt d ∙ sym (c.list-notices.ensures ∙ plan.notices) in
-    let room_for : room depth (line n.wire) p (copies_on p xs) ≡ true = sym c.has-room.ensures ∙ c.if-not-has-room.false in
+    let room_for : room depth (line n.wire) p (copies_on p xs) ≡ true = sym c.has_room.ensures ∙ c.if-not-has_room.false in
     let b = decided_so n.ports x n.own lt e c.decide.new.self c.decide.result planned c.decide.ensures in
     record {
       kept = (
@@ -93,10 +93,10 @@ returns g c =
           sent = c.copies.ensures;
           table = refl;
           ports = only_port n.ports p n.own lt e c.decide.new.self (after_decide x) b.view;
-          lines = sent_so line depth n.wire c.send-batch.new.wire p (copies_on p xs) c.send-batch.result room_for c.send-batch.ensures;
+          lines = sent_so line depth n.wire c.send_batch.new.wire p (copies_on p xs) c.send_batch.result room_for c.send_batch.ensures;
           boards = λ q home berth. refl;
         },
-        c.copy-into.ensures,
+        c.copy_into.ensures,
       );
       same = tt;
     }

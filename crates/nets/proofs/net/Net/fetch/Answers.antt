@@ -26,12 +26,12 @@ returns-then-not-sends g c =
     let s = ap not (sym c.sends.ensures ∙ c.if-not-sends.true) in
     record { kept = kept_after (λ h l. record { fault = no_reach v c.args.port c.args.source there s; same = refl }); same = refl }
 
-pub returns-in-default : goal.returns-in-default
-returns-in-default g c =
+pub returns-in_default : goal.returns-in_default
+returns-in_default g c =
     let v = view g.W.Wire.line g.B.Board.shown c.args.self.now in
     let there = any_of c.lacks.ensures c.lacks-2.ensures c.if-lacks.false in
     let s = ap not (sym c.sends.ensures ∙ c.if-not-sends.false) in
-    record { kept = kept_after (λ h l. record { fault = none_arrived v c.args.port c.args.source there s (not_looked _ c.in-default.ensures); same = refl }); same = refl }
+    record { kept = kept_after (λ h l. record { fault = none_arrived v c.args.port c.args.source there s (not_looked _ c.in_default.ensures); same = refl }); same = refl }
 
 pub returns-then-not-takes : goal.returns-then-not-takes
 returns-then-not-takes g c =
@@ -53,8 +53,8 @@ returns-then-not-takes g c =
       same = refl;
     }
 
-pub invariant-of-self : goal.invariant-of-self
-invariant-of-self g c =
+pub invariant_of-self : goal.invariant_of-self
+invariant_of-self g c =
     let n = c.args.self.now in
     let p = c.args.port in
     let f = c.args.source in

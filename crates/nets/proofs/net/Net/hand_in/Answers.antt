@@ -16,12 +16,12 @@ returns-then-lacks g c =
     let x = hand_in_call a.port a.dispatcher a.reading a.mask a.home a.berth a.action a.vessel in
     record { kept = kept_refused v (hand_in x) NoSuchPort (stops NoSuchPort _ _ (sym c.lacks.ensures ∙ c.if-lacks.true)); same = record { reach = refl; ports = refl; wire = refl; board = refl } }
 
-pub returns-then-beyond-four : goal.returns-then-beyond-four
-returns-then-beyond-four g c =
+pub returns-then-beyond_four : goal.returns-then-beyond_four
+returns-then-beyond_four g c =
     let v = view g.W.Wire.line g.B.Board.shown c.args.self.now in
     let a = c.args in
     let x = hand_in_call a.port a.dispatcher a.reading a.mask a.home a.berth a.action a.vessel in
-    record { kept = kept_refused v (hand_in x) NoSuchDispatcher (wrong_dispatcher v x (sym c.lacks.ensures ∙ c.if-lacks.false) (sym c.beyond-four.ensures ∙ c.if-beyond-four.true)); same = record { reach = refl; ports = refl; wire = refl; board = refl } }
+    record { kept = kept_refused v (hand_in x) NoSuchDispatcher (wrong_dispatcher v x (sym c.lacks.ensures ∙ c.if-lacks.false) (sym c.beyond_four.ensures ∙ c.if-beyond_four.true)); same = record { reach = refl; ports = refl; wire = refl; board = refl } }
 
 pub returns-then-misdescribes : goal.returns-then-misdescribes
 returns-then-misdescribes g c =
@@ -29,28 +29,28 @@ returns-then-misdescribes g c =
     let a = c.args in
     let x = hand_in_call a.port a.dispatcher a.reading a.mask a.home a.berth a.action a.vessel in
     record {
-      kept = kept_refused v (hand_in x) WrongContent (wrong_content_lem v x (sym c.lacks.ensures ∙ c.if-lacks.false) (sym c.beyond-four.ensures ∙ c.if-beyond-four.false) (sym c.misdescribes.ensures ∙ c.if-misdescribes.true));
+      kept = kept_refused v (hand_in x) WrongContent (wrong_content_lem v x (sym c.lacks.ensures ∙ c.if-lacks.false) (sym c.beyond_four.ensures ∙ c.if-beyond_four.false) (sym c.misdescribes.ensures ∙ c.if-misdescribes.true));
       same = record { reach = refl; ports = refl; wire = refl; board = refl };
     }
 
-pub returns-then-mask-in-reach : goal.returns-then-mask-in-reach
-returns-then-mask-in-reach g c =
+pub returns-then-mask-in_reach : goal.returns-then-mask-in_reach
+returns-then-mask-in_reach g c =
     let v = view g.W.Wire.line g.B.Board.shown c.args.self.now in
     let a = c.args in
     let x = hand_in_call a.port a.dispatcher a.reading a.mask a.home a.berth a.action a.vessel in
-    let astray = any_of {a = eqb a.mask 0} refl (ap not c.in-reach.ensures) c.if-mask-in-reach.true in
+    let astray = any_of {a = eqb a.mask 0} refl (ap not c.in_reach.ensures) c.if-mask-in_reach.true in
     record {
-      kept = kept_refused v (hand_in x) WrongDestinations (wrong_destinations v x (sym c.lacks.ensures ∙ c.if-lacks.false) (sym c.beyond-four.ensures ∙ c.if-beyond-four.false) (sym c.misdescribes.ensures ∙ c.if-misdescribes.false) astray);
+      kept = kept_refused v (hand_in x) WrongDestinations (wrong_destinations v x (sym c.lacks.ensures ∙ c.if-lacks.false) (sym c.beyond_four.ensures ∙ c.if-beyond_four.false) (sym c.misdescribes.ensures ∙ c.if-misdescribes.false) astray);
       same = record { reach = refl; ports = refl; wire = refl; board = refl };
     }
 
-pub invariant-of-self : goal.invariant-of-self
-invariant-of-self g c =
+pub invariant_of-self : goal.invariant_of-self
+invariant_of-self g c =
     let n = c.args.self.now in
     let p = c.args.port in
     let d = c.index-ports-at.result in
     let lt = inside_table n.reach p (sym c.lacks.ensures ∙ c.if-lacks.false) in
-    (numbered_still n.ports p n.own lt d c.hand-in.new.self (still_own (get_or n.ports p d) c.hand-in.new.self _ c.hand-in.result c.hand-in.ensures), tt)
+    (numbered_still n.ports p n.own lt d c.hand_in.new.self (still_own (get_or n.ports p d) c.hand_in.new.self _ c.hand_in.result c.hand_in.ensures), tt)
 
 pub returns : goal.returns
 returns g c =
@@ -63,14 +63,14 @@ returns g c =
     let x = hand_in_call p a.dispatcher a.reading a.mask a.home a.berth a.action a.vessel in
     let d = c.index-ports-at.result in
     let old = get_or n.ports p d in
-    let new = c.hand-in.new.self in
+    let new = c.hand_in.new.self in
     let there = sym c.lacks.ensures ∙ c.if-lacks.false in
     let lt = inside_table n.reach p there in
     let fit = sym c.misdescribes.ensures ∙ c.if-misdescribes.false in
-    let near = any_of {a = eqb a.mask 0} refl (ap not c.in-reach.ensures) c.if-mask-in-reach.false in
-    let call = same_call v.table old p a.dispatcher a.reading a.mask a.home a.berth a.action a.vessel c.action-of-action.result (own_is n.ports p n.own lt d) c.action-of-action.ensures fit in
-    let did : HandsIn old new x c.hand-in.result = subst (λ y. HandsIn old new y c.hand-in.result) call c.hand-in.ensures in
+    let near = any_of {a = eqb a.mask 0} refl (ap not c.in_reach.ensures) c.if-mask-in_reach.false in
+    let call = same_call v.table old p a.dispatcher a.reading a.mask a.home a.berth a.action a.vessel c.action_of-action.result (own_is n.ports p n.own lt d) c.action_of-action.ensures fit in
+    let did : HandsIn old new x c.hand_in.result = subst (λ y. HandsIn old new y c.hand_in.result) call c.hand_in.ensures in
     record {
-      kept = hands_in line shown n x lt d new g.W.Wire.depth g.B.Board.rule c.hand-in.result (up_to_port v x there (sym c.beyond-four.ensures ∙ c.if-beyond-four.false) fit near) did;
-      same = stays line shown n x lt d new c.hand-in.result did _ refl refl refl refl;
+      kept = hands_in line shown n x lt d new g.W.Wire.depth g.B.Board.rule c.hand_in.result (up_to_port v x there (sym c.beyond_four.ensures ∙ c.if-beyond_four.false) fit near) did;
+      same = stays line shown n x lt d new c.hand_in.result did _ refl refl refl refl;
     }

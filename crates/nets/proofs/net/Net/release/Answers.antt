@@ -16,15 +16,15 @@ returns-then-lacks g c =
     let v = view g.W.Wire.line g.B.Board.shown c.args.self.now in
     record { kept = kept_refused v (release c.args.port) NoSuchPort (stops NoSuchPort _ _ (sym c.lacks.ensures ∙ c.if-lacks.true)); same = refl }
 
-pub returns-in-default : goal.returns-in-default
-returns-in-default g c =
+pub returns-in_default : goal.returns-in_default
+returns-in_default g c =
     let n = c.args.self.now in
     let v = view g.W.Wire.line g.B.Board.shown n in
     let p = c.args.port in
     let there = sym c.lacks.ensures ∙ c.if-lacks.false in
     let lt = inside_table n.reach p there in
     let is = port_is n.ports p n.own lt c.index-self-at.result in
-    record { kept = kept_refused v (release p) NothingWaits (none_waits v p there (ap (λ o. o.waiting) is ∙ c.in-default.ensures)); same = refl }
+    record { kept = kept_refused v (release p) NothingWaits (none_waits v p there (ap (λ o. o.waiting) is ∙ c.in_default.ensures)); same = refl }
 
 pub returns-then-holders-gt0 : goal.returns-then-holders-gt0
 returns-then-holders-gt0 g c =
@@ -39,8 +39,8 @@ returns-then-holders-gt0 g c =
     let bits = c.holders-holders.ensures ∙ held_is n.reach p (get_or n.ports p d) (ports_of n.ports p) x (port_is n.ports p n.own lt d) (own_is n.ports p n.own lt d) low in
     record { kept = kept_refused v (release p) (Held c.holders-holders.result) (is_held v p there x c.holders-holders.result.bits low bits c.if-holders-gt0.true); same = refl }
 
-pub invariant-of-self : goal.invariant-of-self
-invariant-of-self g c =
+pub invariant_of-self : goal.invariant_of-self
+invariant_of-self g c =
     let n = c.args.self.now in
     let p = c.args.port in
     let lt = inside_table n.reach p (sym c.lacks.ensures ∙ c.if-lacks.false) in

@@ -18,8 +18,8 @@ taken p source x r e t = not-true _ (sym e ∙ t)
 noticed : (p : Port) (source : ℕ) (x : Record) (d : Decided) → x ≡ Carries d → misfits p.own source x (waiting_of p.waiting) ≡ false → misfits p.own source (Carries d) (waiting_of p.waiting) ≡ false
 noticed p source x d is h = subst (λ y. misfits p.own source y (waiting_of p.waiting) ≡ false) is h
 
-pub invariant-of-self : goal.invariant-of-self
-invariant-of-self c =
+pub invariant_of-self : goal.invariant_of-self
+invariant_of-self c =
     let p = c.args.self.now in
     let d = c.in-Notice.notice in
     let fits = noticed p c.args.source c.args.record d c.in-Notice.is (taken p c.args.source c.args.record c.takes.result c.takes.ensures c.if-not-takes.false) in
@@ -39,7 +39,7 @@ returns-in-Notice c =
       record {
         own = refl;
         view = view_same _ _ refl refl refl refl refl refl
-            (set_changed p.clearances source (Some c.pair-of.result) None (omega (arith, p.sources)) ∙ ap (λ x. changed source (Some x) (port_view p).clearance) c.pair-of.ensures)
+            (set_changed p.clearances source (Some c.pair_of.result) None (omega (arith, p.sources)) ∙ ap (λ x. changed source (Some x) (port_view p).clearance) c.pair_of.ensures)
             (e ∙ ap (λ x. joined x (waiting_of p.waiting)) (sym c.in-Notice.is));
       },
     ))

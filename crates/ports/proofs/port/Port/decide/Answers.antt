@@ -12,19 +12,19 @@ pub join-requires : goal.join-requires
 join-requires c =
     let p = c.args.self.now in
     let x = deciding p c.args.number c.args.cuts.now in
-    let planned = c.in-ok-batch.ensures in
+    let planned = c.in_ok-batch.ensures in
     let ds = c.list.result.now in
-    let bs = batch_of c.in-ok-batch.batch in
+    let bs = batch_of c.in_ok-batch.batch in
     record {
       port = p.port;
       stamped = batch_stamped p.own ds bs (decision (port_view p) x) c.list.ensures planned.notices p.floor (batch c.args.cuts.now (undecided_of p.undecided)) refl;
       room = batch_room p.own ds bs (decision (port_view p) x) c.list.ensures planned.notices (count_from p.own (waiting_of p.waiting)) (own_fit (port_view p) x planned.accepted);
     }
 
-pub invariant-of-self : goal.invariant-of-self
-invariant-of-self c =
+pub invariant_of-self : goal.invariant_of-self
+invariant_of-self c =
     let p = c.args.self.now in
     let x = deciding p c.args.number c.args.cuts.now in
-    let none = c.in-ok-batch.ensures.accepted in
+    let none = c.in_ok-batch.ensures.accepted in
     let addressed = addressed_all p.own c.list.result.now (waiting_of p.waiting) (waiting_of c.join.new.waiting) c.join.ensures p.addressed in
     (p.port, (omega (arith, number_is (port_view p) x none, number_low (port_view p) x none), (p.givens, (c.told-cuts, (p.lasts, (p.sources, (cut_given (port_view p) x none c.told-cuts, (addressed, tt))))))))

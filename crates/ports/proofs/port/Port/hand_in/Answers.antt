@@ -15,9 +15,9 @@ returns c =
     let few : length (undecided_of p.undecided) < 16 = omega (arith, ap length c.list.ensures) in
     let count = c.in-Some.count in
     let next = c.in-Some.ensures in
-    let clock = c.clock-for-clock.result in
+    let clock = c.clock_for-clock.result in
     let x = made p d count clock c.args.to c.args.home c.args.berth c.args.action c.args.vessel in
-    let is = made_is p d c.args.reading count clock c.args.to c.args.home c.args.berth c.args.action c.args.vessel next.1 c.clock-for-clock.ensures in (
+    let is = made_is p d c.args.reading count clock c.args.to c.args.home c.args.berth c.args.action c.args.vessel next.1 c.clock_for-clock.ensures in (
       handing_none (port_view p) d (omega arith) next.0 few,
       next.1,
       record {
@@ -26,7 +26,7 @@ returns c =
             (added x p.undecided c.add.new.self c.add.result few c.add.ensures ∙ ap (λ y. placed handed_before y (undecided_of p.undecided)) is)
             (set_changed p.given d count 0 (omega (arith, p.givens)) ∙ ap (λ n. changed d n (port_view p).given) next.1)
             refl
-            (set_changed p.clocks d clock 0 (omega (arith, p.lasts)) ∙ ap (λ n. changed d n (port_view p).clock) c.clock-for-clock.ensures)
+            (set_changed p.clocks d clock 0 (omega (arith, p.lasts)) ∙ ap (λ n. changed d n (port_view p).clock) c.clock_for-clock.ensures)
             refl refl refl refl;
       },
     )

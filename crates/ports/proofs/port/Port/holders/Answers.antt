@@ -10,8 +10,8 @@ use Rattle.ports.proofs.port.Port.holders.Goals as goal
 abbrev test : Port → Reach → Pair → ℕ → Bool
 test p reach pair f = sends reach.masks f p.own && holds (get_or p.clearances f None) pair
 
-pub overflow-add-bits : goal.overflow-add-bits
-overflow-add-bits c = omega (arith, c.loop-f.invariant, mask_fits c.loop-f.f (test c.args.self.now c.args.reach.now c.args.pair) (omega arith))
+pub overflow_add-bits : goal.overflow_add-bits
+overflow_add-bits c = omega (arith, c.loop-f.invariant, mask_fits c.loop-f.f (test c.args.self.now c.args.reach.now c.args.pair) (omega arith))
 
 pub loop-f-preserved : goal.loop-f-preserved
 loop-f-preserved c =

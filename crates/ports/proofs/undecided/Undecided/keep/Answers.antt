@@ -7,10 +7,10 @@ use Rattle.ports.specs.Held.{undecided_of}
 use Rattle.ports.proofs.Leaving.{pairs_kept, front_kept, front_long}
 use Rattle.ports.proofs.undecided.Undecided.keep.Goals as goal
 
-pub invariant-of-self : goal.invariant-of-self
-invariant-of-self c =
+pub invariant_of-self : goal.invariant_of-self
+invariant_of-self c =
     let u = c.args.self.now in
-    let k = c.keep-left-self in
+    let k = c.keep_left-self in
     let cuts = c.args.cuts.now in
     let e = front_kept (left cuts) u.notices k.new.notices u.len k.result k.auto.notices k.ensures.kept k.ensures.few in
     let few = k.ensures.few in
@@ -20,5 +20,5 @@ invariant-of-self c =
 pub returns : goal.returns
 returns c =
     let u = c.args.self.now in
-    let k = c.keep-left-self in
+    let k = c.keep_left-self in
     front_kept (left c.args.cuts.now) u.notices k.new.notices u.len k.result k.auto.notices k.ensures.kept k.ensures.few

@@ -11,8 +11,8 @@ use Rattle.ports.proofs.waiting.Waiting.add.Goals as goal
 room : (w : Waiting) (p : ℕ) → p < 8 → count_from p (waiting_of w) < 8 → w.len < 64
 room w p low few = omega (arith, crowd (waiting_of w) w.known w.crowds p 1 low (omega arith), length-take-le w.len w.notices (omega (arith, w.places, w.within)))
 
-pub invariant-of-self : goal.invariant-of-self
-invariant-of-self c =
+pub invariant_of-self : goal.invariant_of-self
+invariant_of-self c =
     let w = c.args.self.now in
     let x = c.args.notice in
     let low : x.stamp.port < 8 = omega arith in

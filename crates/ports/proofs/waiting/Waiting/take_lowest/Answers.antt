@@ -6,20 +6,20 @@ use Rattle.model.specs.Lists.{rest}
 use Rattle.ports.specs.Held.{Lowest, waiting_of}
 use Rattle.ports.proofs.Crowds.{taken_from, known_left, crowds_left}
 use Rattle.ports.proofs.waiting.Waiting.take_lowest.Goals as goal
-use Rattle.ports.proofs.waiting.Waiting.take_lowest.Goals.{After-take-first-lowest}
+use Rattle.ports.proofs.waiting.Waiting.take_lowest.Goals.{After-take_first-lowest}
 
-taken : (c : goal.After-take-first-lowest) → (x : Decided) × (c.take-first-lowest.result ≡ Some x) × Taken decided_before x c.args.self.now.len c.args.self.now.notices c.take-first-lowest.new.places
-taken c = taken_from decided_before c.args.self.now.len c.args.self.now.notices c.take-first-lowest.new.places c.take-first-lowest.result (omega arith) (omega arith) c.take-first-lowest.ensures
+taken : (c : goal.After-take_first-lowest) → (x : Decided) × (c.take_first-lowest.result ≡ Some x) × Taken decided_before x c.args.self.now.len c.args.self.now.notices c.take_first-lowest.new.places
+taken c = taken_from decided_before c.args.self.now.len c.args.self.now.notices c.take_first-lowest.new.places c.take_first-lowest.result (omega arith) (omega arith) c.take_first-lowest.ensures
 
-pub invariant-of-self : goal.invariant-of-self
-invariant-of-self c =
+pub invariant_of-self : goal.invariant_of-self
+invariant_of-self c =
     let w = c.args.self.now in
     let t = (taken c).2 in
     (omega arith, (omega arith, (t.rising w.rises, (known_left _ w.len w.notices _ t w.known, (crowds_left _ w.len w.notices _ t w.crowds, tt)))))
 
 pub returns : goal.returns
 returns c =
-    let t = taken (goal.at.returns c).After-take-first-lowest in
+    let t = taken (goal.at.returns c).After-take_first-lowest in
     record {
       value = subst (Lowest (waiting_of c.args.self.now)) (sym t.1) (t.2.entries ∙ ap (λ xs. t.0 ∷ rest xs) (sym t.2.entries));
       after = ap rest (sym t.2.entries);

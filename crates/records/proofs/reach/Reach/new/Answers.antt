@@ -11,10 +11,10 @@ loop-port-preserved c = (
   filled_more c.args.masks.now c.loop-port.table c.loop-port.port _ c.loop-port.invariant.1 (omega arith) refl c.if-misnames.ensures,
 )
 
-pub invariant-of-result : goal.invariant-of-result
-invariant-of-result c =
+pub invariant_of-result : goal.invariant_of-result
+invariant_of-result c =
     let full = filled_all c.args.masks.now c.loop-port.table c.loop-port.port c.loop-port.invariant.1 (omega arith) in
-    (c.loop-port.invariant.0, ((omega arith, omega arith), (filled_sound c.args.masks.now c.loop-port.table full, tt)))
+    record { places = c.loop-port.invariant.0; count = (omega arith, omega arith); sound = filled_sound c.args.masks.now c.loop-port.table full }
 
 pub returns : goal.returns
 returns c =

@@ -4,15 +4,15 @@ use Rattle.row_wire.specs.Rings.{ringed}
 use Rattle.row_wire.specs.RingLaws.{length_held, ringed_push}
 use Rattle.row_wire.proofs.ring.Ring.push.Goals as goal
 
-pub returns-then-is-full : goal.returns-then-is-full
-returns-then-is-full c =
+pub returns-then-is_full : goal.returns-then-is_full
+returns-then-is_full c =
     let r = c.args.self.now in
-    (refl, record { full = omega (arith, length_held r, eqb-true r.len 16 (sym c.if-is-full.ensures)); same = refl })
+    (refl, record { full = omega (arith, length_held r, eqb-true r.len 16 (sym c.if-is_full.ensures)); same = refl })
 
 pub returns : goal.returns
 returns c =
     let r = c.args.self.now in
-    let some : r.len ≡ 16 → ⊥ = eqb-false r.len 16 (sym c.if-is-full.ensures) in
+    let some : r.len ≡ 16 → ⊥ = eqb-false r.len 16 (sym c.if-is_full.ensures) in
     let room : r.len < 16 = omega (arith, r.ok.2) in
     record {
       space = omega (arith, length_held r);

@@ -3,8 +3,8 @@ use Rattle.row_wire.specs.RingLaws.{held_fits}
 use Rattle.row_wire.specs.RowLaws.{held_is, depth_is}
 use Rattle.row_wire.proofs.rows.RowWireWire.free.Goals as goal
 
-pub overflow-sub-result : goal.overflow-sub-result
-overflow-sub-result c = omega (arith, held_fits (get_or c.args.self.now.rings c.in-Some.k c.index-self-k.result))
+pub overflow_sub-result : goal.overflow_sub-result
+overflow_sub-result c = omega (arith, held_fits (get_or c.args.self.now.rings c.in-Some.k c.index-self-k.result))
 
 pub returns-in-Some : goal.returns-in-Some
 returns-in-Some c =

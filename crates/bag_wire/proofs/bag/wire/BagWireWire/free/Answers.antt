@@ -3,8 +3,8 @@ use Rattle.bag_wire.specs.Journals.{kept}
 use Rattle.bag_wire.proofs.Edits.{mid_is, length_line}
 use Rattle.bag_wire.proofs.bag.wire.BagWireWire.free.Goals as goal
 
-pub overflow-sub-result : goal.overflow-sub-result
-overflow-sub-result c =
+pub overflow_sub-result : goal.overflow_sub-result
+overflow_sub-result c =
     let w = c.args.self.now in
     omega (arith, w.ok.2 c.args.from c.args.to, ap (λ es. length (kept es c.args.from c.args.to)) (mid_is w.entries w.len))
 

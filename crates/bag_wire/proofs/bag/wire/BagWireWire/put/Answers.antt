@@ -5,8 +5,8 @@ use Rattle.bag_wire.proofs.bag.wire.BagWireWire.put.Goals as goal
 pub bounds-self-self : goal.bounds-self-self
 bounds-self-self c = let w = c.args.self.now in put_within w.entries w.len w.ok c.args.from c.args.to c.args.record c.fresh.result c.fresh.ensures (omega arith)
 
-pub invariant-of-self : goal.invariant-of-self
-invariant-of-self c = let w = c.args.self.now in (put_ok w.entries w.len w.ok c.args.from c.args.to c.args.record c.fresh.result c.fresh.ensures (omega arith), tt)
+pub invariant_of-self : goal.invariant_of-self
+invariant_of-self c = let w = c.args.self.now in (put_ok w.entries w.len w.ok c.args.from c.args.to c.args.record c.fresh.result c.fresh.ensures (omega arith), tt)
 
 pub returns : goal.returns
 returns c =

@@ -5,18 +5,18 @@ use Rattle.bag_wire.proofs.JournalLaws.{blank}
 use Rattle.bag_wire.proofs.Edits.{look_late, take_ok, take_done}
 use Rattle.bag_wire.proofs.bag.wire.BagWireWire.take.Goals as goal
 
-pub returns-in-err-record : goal.returns-in-err-record
-returns-in-err-record c =
+pub returns-in_err-record : goal.returns-in_err-record
+returns-in_err-record c =
     let w = c.args.self.now in
-    let late = look_late w.entries w.len w.ok c.args.from c.args.to c.in-ok-i.i c.in-ok-i.ensures blank c.in-err-record.ensures in
-    subst (TakeAnswers (bag_lines w) (bag_lines w) c.args.from c.args.to) (sym c.from-residual-in-err-record.ensures) (record { none = late; same = λ p q. refl })
+    let late = look_late w.entries w.len w.ok c.args.from c.args.to c.in_ok-i.i c.in_ok-i.ensures blank c.in_err-record.ensures in
+    subst (TakeAnswers (bag_lines w) (bag_lines w) c.args.from c.args.to) (sym c.from-residual-in_err-record.ensures) (record { none = late; same = λ p q. refl })
 
-pub invariant-of-self : goal.invariant-of-self
-invariant-of-self c =
+pub invariant_of-self : goal.invariant_of-self
+invariant_of-self c =
     let w = c.args.self.now in
-    (take_ok w.entries w.len w.ok c.args.from c.args.to c.in-ok-i.i c.in-ok-i.ensures blank c.move-behind.new.entries c.move-behind.ensures, tt)
+    (take_ok w.entries w.len w.ok c.args.from c.args.to c.in_ok-i.i c.in_ok-i.ensures blank c.move_behind.new.entries c.move_behind.ensures, tt)
 
 pub returns : goal.returns
 returns c =
     let w = c.args.self.now in
-    take_done w.entries w.len w.ok c.args.from c.args.to c.in-ok-i.i c.in-ok-i.ensures blank c.move-behind.new.entries c.move-behind.ensures c.in-ok-record.record c.in-ok-record.ensures
+    take_done w.entries w.len w.ok c.args.from c.args.to c.in_ok-i.i c.in_ok-i.ensures blank c.move_behind.new.entries c.move_behind.ensures c.in_ok-record.record c.in_ok-record.ensures
