@@ -1,2 +1,5 @@
+pub mod FieldLaws
+pub mod Puts
 pub mod Readings
-pub mod Sayings
+pub mod StreamLaws
+pub mod Values

@@ -1,5 +1,5 @@
 pub mod Answers
 pub mod Fields
 pub mod Letters
-pub mod Numbers
 pub mod Streams
+pub mod Writing

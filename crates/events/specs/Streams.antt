@@ -1,14 +1,16 @@
--- What a stream says field by field, and where it stops. Assumes nothing.
-use Rattle.std.specs.Prelude.{◌≡◌, ℕ, ◌<◌, List, [], ◌∷◌, Some, None, Ok, Err, Option, Result}
+-- What a whole stream says, and when it is accepted. Assumes nothing.
+use Rattle.std.specs.Prelude.{◌≡◌, ℕ, ◌<◌, ◌≤◌, ◌⊎◌, List, [], ◌∷◌, ◌++◌, length, drop, Some, None, Ok, Err, Option, Result}
+use Rattle.records.specs.declared.fault.OutputFault.{OutputFault}
+use Rattle.records.specs.declared.fault.OutputFault.TheVariants.{StreamTooLong, MemoryTooShort}
+use Rattle.records.specs.declared.fault.ReaderFault.{ReaderFault}
 use Rattle.records.specs.declared.fault.TableFault.{TableFault}
+use Rattle.std.specs.List.{AllByRecursion as All}
 use Rattle.records.specs.Reaching.{Refuses}
 use Rattle.events.specs.declared.event.Event.{Event}
 use Rattle.events.specs.declared.part.Part.{Part}
-use Rattle.events.specs.declared.part.Part.TheVariants.{Reader, Table}
-use Rattle.events.specs.declared.part.Refusal.{Refusal}
-use Rattle.events.specs.declared.part.StreamFault.{StreamFault}
-use Rattle.events.specs.declared.part.StreamFault.TheVariants.{Refused, NoMemory}
-use Rattle.events.specs.Fields.{Reading, table, event, end, refused, read_at}
+use Rattle.events.specs.declared.part.Part.TheVariants.{Reader, Table, Memory}
+use Rattle.events.specs.Fields.{Reading, table, event, end, refused, read_at, longest}
+use Rattle.events.specs.Writing.{stream_of, Fit}
 
 -- from a place on, a stream says these events, one field after the other, and from there on reads this way
 pub data Says (stream : List ℕ) : ℕ → List Event → ℕ → Type 0 where
@@ -19,6 +21,28 @@ pub data Says (stream : List ℕ) : ℕ → List Event → ℕ → Type 0 where
 abbrev pub IsTable : List ℕ → Type 0
 IsTable masks = (fault : TableFault) → Refuses masks fault → ⊥
 
+-- reader and table refuse nothing in the stream: it begins with the masks of a table, then says these events, then ends
+pub record Accepted (stream : List ℕ) (masks : List ℕ) (events : List Event) : Type 0 where
+  pub behind : ℕ
+  pub last : ℕ
+  pub first : read_at stream 0 ≡ table masks behind
+  pub sound : IsTable masks
+  pub says : Says stream behind events last
+  pub ends : read_at stream last ≡ end
+
+-- the stream of a table and events was written to the front of the memory, in n bytes, and is accepted as just these
+pub record Wrote (masks : List ℕ) (events : List Event) (old new : List ℕ) (n : ℕ) : Type 0 where
+  pub count : n ≡ length (stream_of masks events)
+  pub bytes : new ≡ stream_of masks events ++ drop n old
+  pub reads : Accepted (stream_of masks events) masks events
+
+-- when a stream is not written; the memory stays as it was
+abbrev pub NotWritten : List ℕ → List ℕ → OutputFault → Type 0
+NotWritten stream memory StreamTooLong = longest < length stream
+NotWritten stream memory MemoryTooShort = (length stream ≤ longest) × (length memory < length stream)
+
+-- ---- reading a whole stream
+
 -- the stream begins with the masks of a table, and then a place comes
 pub record FirstTable (stream masks : List ℕ) (behind : ℕ) : Type 0 where
   pub first : read_at stream 0 ≡ table masks behind
@@ -28,24 +52,39 @@ pub record FirstTable (stream masks : List ℕ) (behind : ℕ) : Type 0 where
 abbrev pub FirstRefused : List ℕ → Part → Type 0
 FirstRefused stream (Reader fault) = read_at stream 0 ≡ refused fault
 FirstRefused stream (Table fault) = (masks : List ℕ) × (behind : ℕ) × (read_at stream 0 ≡ table masks behind) × Refuses masks fault
-
--- the reading is a refusal by this part; behind the first field only the reader refuses
-abbrev pub RefusedBy : Reading → Part → Type 0
-RefusedBy found (Reader fault) = found ≡ refused fault
-RefusedBy found (Table fault) = ⊥
+FirstRefused stream Memory = ⊥
 
 -- what one call behind the table answers, at the place p, where it found this reading; the reader then stands at q
-abbrev pub EventAnswers : Reading → ℕ → ℕ → Result (Option Event) Refusal → Type 0
+abbrev pub EventAnswers : Reading → ℕ → ℕ → Result (Option Event) ReaderFault → Type 0
 EventAnswers found p q (Ok (Some e)) = (found ≡ event e q) × (p < q)
 EventAnswers found p q (Ok None) = (found ≡ end) × (q ≡ p)
-EventAnswers found p q (Err r) = (r.place ≡ p) × RefusedBy found r.part × (q ≡ p)
+EventAnswers found p q (Err fault) = (found ≡ refused fault) × (q ≡ p)
 
--- the place of a fault's field
-abbrev pub place_of : StreamFault → ℕ
-place_of (Refused r) = r.place
-place_of (NoMemory place) = place
+-- the reader stops at a later field
+abbrev pub StopsAt : List ℕ → ℕ → Part → Type 0
+StopsAt stream place (Reader fault) = read_at stream place ≡ refused fault
+StopsAt stream place (Table fault) = ⊥
+StopsAt stream place Memory = (e : Event) × (behind : ℕ) × (read_at stream place ≡ event e behind)
 
--- why a later field is not read: the reader refuses it, or it says an event, for which there was no memory
-abbrev pub Stops : List ℕ → StreamFault → Type 0
-Stops stream (Refused r) = RefusedBy (read_at stream r.place) r.part
-Stops stream (NoMemory place) = (e : Event) × (behind : ℕ) × (read_at stream place ≡ event e behind)
+-- from a place on the stream says these events, and then ends
+pub record SaysRest (stream : List ℕ) (from : ℕ) (events : List Event) : Type 0 where
+  pub last : ℕ
+  pub says : Says stream from events last
+  pub ends : read_at stream last ≡ end
+
+-- from a place on the stream says some events, and then the field at another place is refused by the reader, or found no memory
+pub record RestRefused (stream : List ℕ) (from place : ℕ) (part : Part) : Type 0 where
+  pub events : List Event
+  pub says : Says stream from events place
+  pub why : StopsAt stream place part
+
+-- the whole stream was read: it is accepted as this table and these events, is their writing byte for byte, and no
+-- others have that writing
+pub record ReadWhole (stream masks : List ℕ) (events : List Event) : Type 0 where
+  pub accepted : Accepted stream masks events
+  pub written : stream ≡ stream_of masks events
+  pub only : (masks' : List ℕ) (events' : List Event) → IsTable masks' → All Fit events' → stream_of masks' events' ≡ stream → (masks' ≡ masks) × (events' ≡ events)
+
+-- the first fault of a stream: nothing before its place is refused
+abbrev pub FirstFault : List ℕ → ℕ → Part → Type 0
+FirstFault stream place part = ((place ≡ 0) × FirstRefused stream part) ⊎ ((masks : List ℕ) × (behind : ℕ) × FirstTable stream masks behind × RestRefused stream behind place part)

@@ -1,9 +1,9 @@
 // Event streams: what is handed to the program, and what a port's radio box sends and takes, as fields of bytes.
-pub mod behind; // reads the table, and then event by event
 pub mod event; // the events, one case for each tag
 pub mod part; // where and why a stream ends a run
 pub mod reader; // reads a stream field by field
+pub mod stream; // reads a whole stream
+pub mod writer; // writes a table and events as a stream
 
-pub use behind::{EventReader, open_stream};
 pub use event::{Event, Field};
 pub use reader::Reader;

@@ -10,7 +10,7 @@ use records::fault::ReaderFault;
 pub const LONGEST: usize = 32768;
 
 // The tag of the first field, which holds the table's masks.
-pub const TABLE: u8 = 16;
+pub(crate) const TABLE: u8 = 16;
 
 fn u16_at(bytes: &[u8], i: usize) -> u16
     requires { i + 2 ≤ length bytes.now }
@@ -105,6 +105,7 @@ fn field_fault(first: bool, tag: u8, len: usize, there: usize) -> Option<ReaderF
 pub struct Reader<'a> {
     stream: &'a [u8],
     place: usize,
+    ghost within: { place ≤ length stream.now },
 }
 
 impl<'a> Reader<'a> {
@@ -113,14 +114,6 @@ impl<'a> Reader<'a> {
         ensures stream { result.stream.now ≡ stream.now }
     {
         Reader { stream, place: 0 }
-    }
-
-    // A reader that goes on at the place; beyond the end of the stream there is nothing more to read.
-    pub fn at(stream: &'a [u8], place: usize) -> Reader<'a>
-        ensures place { result.place ≡ place }
-        ensures stream { result.stream.now ≡ stream.now }
-    {
-        Reader { stream, place }
     }
 
     // Where the field begins that is read next.
@@ -135,14 +128,13 @@ impl<'a> Reader<'a> {
     pub fn next(&mut self) -> Result<Option<Field<'a>>, ReaderFault>
         ensures stream { self.new.stream.now ≡ self.old.stream.now }
         ensures same { OnErr result (self.new ≡ self.old) }
-        ensures onward { IfOk result (λ o. OnSome o ((self.old.place + 3 ≤ self.new.place) × (self.new.place ≤ length self.old.stream.now))) }
+        ensures onward { IfOk result (λ o. OnSome o (self.old.place + 3 ≤ self.new.place)) }
         ensures answers { Answers (read_at self.old.stream.now self.old.place) self.old.place self.new.place result }
     {
         if self.stream.len() > LONGEST {
             return Err(ReaderFault::StreamTooLong);
         }
-        let from = self.place.min(self.stream.len());
-        let rest = &self.stream[from..];
+        let rest = &self.stream[self.place..];
         if rest.is_empty() && self.place > 0 {
             return Ok(None);
         }

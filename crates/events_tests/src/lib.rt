@@ -1,7 +1,5 @@
 // Examples of event streams and reach tables: every tag, and both sides of every bound of the reader and the table.
 #[cfg(test)]
-mod behind; // event by event, behind the table
-#[cfg(test)]
 mod streams; // where and by which number a stream is refused
 #[cfg(test)]
 mod tables; // which masks make a reach table

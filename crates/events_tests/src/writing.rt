@@ -1,12 +1,12 @@
 // What is written, byte for byte, and read back; both sides of the limits of the writer.
 use events::event::Event;
-use events::part::{Part, Refusal, StreamFault};
+use events::part::{Part, StreamFault};
+use events::stream::read_stream;
+use events::writer::write;
 use records::fault::{ReaderFault, TableFault};
 use records::reach::Reach;
 use std::alloc::{AllocError, Global};
 use std::test::Fail;
-use streams::stream::read_stream;
-use streams::writer::write;
 
 // How many bytes are written, and 0; or 0, and the refusal's number.
 fn written(events: &[Event], out: &mut [u8]) -> (usize, u8) {
@@ -128,22 +128,25 @@ fn fault(heap: Global, stream: &[u8]) -> Option<StreamFault> {
     }
 }
 
-fn refused(place: usize, part: Part) -> Option<StreamFault> {
-    Some(StreamFault::Refused(Refusal { place, part }))
-}
-
 #[test]
 fn the_first_fault(rt: HostRuntime) {
     assert_eq!(rt; fault(rt.alloc(), &[16, 0, 2, 2, 1]), None);
-    let cut = Part::Reader(ReaderFault::LooseBytes);
-    assert_eq!(rt; fault(rt.alloc(), &[]), refused(0, cut));
-    let own = Part::Table(TableFault::WrongMask);
-    assert_eq!(rt; fault(rt.alloc(), &[16, 0, 2, 1, 1, 99]), refused(0, own));
-    let unknown = Part::Reader(ReaderFault::UnknownTag);
+    let cut = StreamFault {
+        place: 0,
+        part: Part::Reader(ReaderFault::LooseBytes),
+    };
+    assert_eq!(rt; fault(rt.alloc(), &[]), Some(cut));
+    let own = StreamFault {
+        place: 0,
+        part: Part::Table(TableFault::WrongMask),
+    };
+    assert_eq!(rt; fault(rt.alloc(), &[16, 0, 2, 1, 1, 99]), Some(own));
+    let unknown = StreamFault {
+        place: 9,
+        part: Part::Reader(ReaderFault::UnknownTag),
+    };
     assert_eq!(rt;
         fault(rt.alloc(), &[16, 0, 2, 2, 1, 6, 0, 1, 0, 7, 0, 0, 1]),
-        refused(9, unknown)
+        Some(unknown)
     );
-    assert_eq!(rt; cut.number(), 21);
-    assert_eq!(rt; own.number(), 2);
 }

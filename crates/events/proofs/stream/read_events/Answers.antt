@@ -1,0 +1,37 @@
+use Rattle.std.proofs.Common.{◌≡◌, ℕ, true, cond, List, [], ◌∷◌, ◌++◌, is_ok, Some, Ok, vec_items, sym, refl, ap, ◌∙◌, subst, arith}
+use Rattle.events.specs.Fields.{read_at, event}
+use Rattle.events.specs.Streams.{Says, none, EventAnswers}
+use Rattle.events.proofs.StreamLaws.{says_more}
+use Rattle.events.proofs.stream.read_events.Goals as goal
+
+pub fields-init : goal.fields-init
+fields-init c = (refl, c.requires, subst (λ es. Says c.args.reader.now.stream.now c.args.reader.now.place es c.args.reader.now.place) (sym c.new-events.ensures.items) (none c.args.reader.now.place))
+
+pub returns-then-is_err : goal.returns-then-is_err
+returns-then-is_err c =
+    let s = c.args.reader.now.stream.now in
+    let p = c.fields.reader.place in
+    let q = c.next_event.new.reader.place in
+    let e = c.in-Some.event in
+    let told = subst (λ o. EventAnswers (read_at c.fields.reader.stream.now p) p q (Ok o)) c.in-Some.is c.in-Ok.ensures.answers in
+    let found : read_at s p ≡ event e q = ap (λ t. read_at t p) (sym c.fields.invariant.0) ∙ told.0 in
+    let here : p ≡ c.place-place.result = sym c.place-place.ensures in
+    record {
+      events = vec_items c.fields.events;
+      says = subst (λ k. Says s c.args.reader.now.place (vec_items c.fields.events) k) here c.fields.invariant.2;
+      why = (e, q, ap (read_at s) (sym here) ∙ found);
+    }
+
+pub fields-preserved : goal.fields-preserved
+fields-preserved c =
+    let s = c.args.reader.now.stream.now in
+    let p = c.fields.reader.place in
+    let q = c.next_event.new.reader.place in
+    let e = c.in-Some.event in
+    let told = subst (λ o. EventAnswers (read_at c.fields.reader.stream.now p) p q (Ok o)) c.in-Some.is c.in-Ok.ensures.answers in
+    let found : read_at s p ≡ event e q = ap (λ t. read_at t p) (sym c.fields.invariant.0) ∙ told.0 in
+    let items : vec_items c.push.new.self ≡ vec_items c.fields.events ++ (e ∷ []) = c.push.ensures.items ∙ ap (λ b. cond b (vec_items c.fields.events ++ (e ∷ [])) (vec_items c.fields.events)) c.if-is_err.ensures.negation in (
+      c.next_event.ensures.stream ∙ c.fields.invariant.0,
+      omega (arith, told.1),
+      subst (λ es. Says s c.args.reader.now.place es q) (sym items) (says_more s c.args.reader.now.place p q (vec_items c.fields.events) e c.fields.invariant.2 found),
+    )
