@@ -1,8 +1,8 @@
 -- What a total order gives of a list that rises by it. Assumes nothing.
-use Rattle.std.proofs.Common.{◌≡◌, ℕ, zero, suc, ◌+◌, ◌-◌, ◌<◌, ◌≤◌, Bool, true, false, cond, not, ◌&&◌, ◌⊎◌, List, [], ◌∷◌, ◌++◌, length, get_or, take, drop, sym, refl, ap, ◌∙◌, subst, inl, inr, ⊎_elim, arith}
+use Rattle.std.proofs.Common.{◌≡◌, ℕ, zero, suc, ◌+◌, ◌≤◌, Bool, true, false, not, List, [], ◌∷◌, length, refl, ap, ⊎_elim, arith}
 use Rattle.std.specs.List.{insert, AllByRecursion as All}
-use Rattle.std.proofs.lemmas.Bool.{both_ways, cases_Bool, and_parts, and_from, not-true, not_from_false, cond-true, cond-false, cond_both}
-use Rattle.ordered.specs.Orders.{Total, all_pass, pairs_pass, Least, Rising, Strict, Fresh, placed, place_of, Place}
+use Rattle.std.proofs.lemmas.Bool.{both_ways, cases_Bool, and_parts, and_from, not-true, not_from_false, cond_both}
+use Rattle.ordered.specs.Orders.{Total, all_pass, pairs_pass, Rising, Strict, Fresh, placed, place_of, Place}
 
 module _ {X : Type 0} (before : X → X → Bool) (x : X) where
   pub place_of_le : (xs : List X) → place_of before x xs ≤ length xs

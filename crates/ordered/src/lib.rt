@@ -1,4 +1,6 @@
 // One ordered list for every kind of entry whose order is total.
+#![tactic(auto)]
+
 pub mod entry; // what an entry shows of its order
 pub mod list; // insert and take-first, over memory of the caller's
 

@@ -1,5 +1,5 @@
 -- What a byte says of each port. Assumes nothing.
-use Rattle.std.proofs.Common.{◌≡◌, ℕ, ◌/◌, ◌%◌, ◌^◌, ◌<◌, ◌≤◌, Bool, true, false, eqb, ap, ◌∙◌, lt_of_lt_of_le, pow_mono}
+use Rattle.std.proofs.Common.{◌≡◌, ℕ, ◌%◌, ◌^◌, ◌<◌, ◌≤◌, false, eqb, ap, lt_of_lt_of_le, pow_mono}
 use native.Mathlib.Nat.{div-eq_of_lt, zero-div}
 use Rattle.records.specs.Masks.{named}
 

@@ -1,5 +1,5 @@
 -- One number for a pair and one for a stamp, which order as they do where a step is below 65,536 and a port below 8. Assumes nothing.
-use Rattle.std.proofs.Common.{◌≡◌, ℕ, ◌+◌, ◌*◌, ◌<◌, ◌≤◌, Bool, true, false, cond, eqb, ltb, sym, refl, ap, ◌∙◌, arith}
+use Rattle.std.proofs.Common.{◌≡◌, ℕ, ◌+◌, ◌*◌, ◌<◌, ltb, ap, ◌∙◌, arith}
 use Rattle.std.proofs.lemmas.Bool.Decides.{nat_tests}
 use Rattle.records.specs.Keys.{pair_before, stamp_before}
 use Rattle.records.specs.declared.stamp.Pair.{Pair}

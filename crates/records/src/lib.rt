@@ -1,4 +1,6 @@
 // What ports say to one another, and the numbers of all refusals. Nothing here knows a wire, a board or a net.
+#![tactic(auto)]
+
 pub mod entries; // notices as entries of the ordered list
 pub mod fault; // why a call is turned down, an enum for each part, with its number
 pub mod mask; // sets of ports

@@ -1,12 +1,12 @@
 -- How growths add up. Assumes nothing.
-use Rattle.std.proofs.Common.{◌≡◌, ℕ, ◌+◌, ◌<◌, ◌≤◌, Bool, true, false, cond, ◌&&◌, eqb, ltb, ◌⊎◌, List, [], ◌∷◌, ◌++◌, length, sym, refl, ap, ◌∙◌, subst, inl, inr, ⊎_elim, arith}
+use Rattle.std.proofs.Common.{◌≡◌, ℕ, ◌+◌, ◌<◌, ◌≤◌, true, false, cond, ◌&&◌, eqb, ltb, List, [], ◌∷◌, ◌++◌, length, sym, refl, ap, ◌∙◌, subst, ⊎_elim, arith}
 use Rattle.std.proofs.lemmas.List.{append-nil, append_assoc, length-append}
 use Rattle.std.proofs.lemmas.Bool.{cond-true, cond-false, cond_both, cases_eq, cases_lt, eqb-true, and_parts, and_right, lt-ltb, le-ltb}
 use Rattle.std.proofs.lemmas.Bool.Decides.{nat_tests}
 use Rattle.records.specs.declared.notice.Record.{Record}
 use Rattle.records.specs.Masks.{named}
 use Rattle.records.proofs.MaskLaws.{none_above}
-use Rattle.wires.specs.Lines.{Line, Lines, Put}
+use Rattle.wires.specs.Lines.{Lines, Put}
 use Rattle.wires.specs.Growths.{Extra, Grown, single, to_each}
 use Rattle.wires.proofs.LineLaws.{by_line}
 

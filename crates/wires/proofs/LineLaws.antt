@@ -1,9 +1,9 @@
 -- What users of a wire need to know of its lines. Assumes nothing.
-use Rattle.std.proofs.Common.{◌≡◌, ℕ, ◌<◌, Bool, true, false, not, ◌&&◌, eqb, ltb, List, ◌∷◌, length, Ok, Err, Result, sym, ap, ◌∙◌, subst, ⊎_elim, arith}
-use Rattle.std.proofs.lemmas.Bool.{cases_eq, cases_Bool, cond-true, cond-false, and_parts, ltb-true, eqb-false, not-true}
+use Rattle.std.proofs.Common.{◌≡◌, ℕ, ◌<◌, true, not, ◌&&◌, eqb, ltb, length, Ok, Err, Result, sym, subst, ⊎_elim, arith}
+use Rattle.std.proofs.lemmas.Bool.{cases_eq, and_parts, ltb-true, eqb-false, not-true}
 use Rattle.records.specs.declared.fault.NetFault.{NetFault}
 use Rattle.records.specs.declared.notice.Record.{Record}
-use Rattle.wires.specs.Lines.{Line, Lines, is_line, depth_of, Same, SameBut, Put, PutAnswers}
+use Rattle.wires.specs.Lines.{Lines, is_line, depth_of, Same, SameBut, Put, PutAnswers}
 
 -- the two ports of a line
 pub line_ports : (p q : ℕ) → is_line p q ≡ true → (p < 8) × (q < 8) × (p ≡ q → ⊥)

@@ -1,4 +1,4 @@
-use Rattle.std.proofs.Common.{◌≡◌, ◌<◌, ◌≤◌, sym, ◌∙◌, ⊎_elim, arith, below_more}
+use Rattle.std.proofs.Common.{◌<◌, ◌≤◌, sym, ◌∙◌, ⊎_elim, arith, below_more}
 use Rattle.std.proofs.lemmas.Bool.{both_ways, cases_lt}
 use Rattle.records.specs.Masks.{named}
 use Rattle.records.proofs.MaskLaws.{none_above}
