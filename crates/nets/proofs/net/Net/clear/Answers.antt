@@ -63,7 +63,7 @@ invariant_of-self-2 g c =
     let n = c.args.self.now in
     let p = c.args.port in
     let lt = inside_table n.reach p (sym c.lacks.ensures ∙ c.if-lacks.false) in
-    (numbered_still n.ports p n.own lt c.index-self-at-2.result c.clear.new.self c.clear.ensures.own, tt)
+    numbered_still n.ports p n.own lt c.index-self-at-2.result c.clear.new.self c.clear.ensures.own
 
 pub returns : goal.returns
 returns g c =

@@ -65,7 +65,7 @@ invariant_of-self g c =
     let same = get_or_default n.ports p d e (in_ports n.ports p n.own lt) in
     let ok : misfits (get_or n.ports p d).own f c.in-Some.record (port_view (get_or n.ports p d)).waiting ≡ false = not-true _ (sym c.takes.ensures ∙ c.if-not-takes.false) in
     let b = admitted (get_or n.ports p e) c.admit.new.self f c.in-Some.record c.admit.result (second_inside n.reach p f there) (subst (λ x. misfits x.own f c.in-Some.record (port_view x).waiting ≡ false) same ok) c.admit.ensures in
-    (numbered_still n.ports p n.own lt e c.admit.new.self b.own, tt)
+    numbered_still n.ports p n.own lt e c.admit.new.self b.own
 
 pub returns : goal.returns
 returns g c =

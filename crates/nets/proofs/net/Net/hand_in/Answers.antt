@@ -50,7 +50,7 @@ invariant_of-self g c =
     let p = c.args.port in
     let d = c.index-ports-at.result in
     let lt = inside_table n.reach p (sym c.lacks.ensures ∙ c.if-lacks.false) in
-    (numbered_still n.ports p n.own lt d c.hand_in.new.self (still_own (get_or n.ports p d) c.hand_in.new.self _ c.hand_in.result c.hand_in.ensures), tt)
+    numbered_still n.ports p n.own lt d c.hand_in.new.self (still_own (get_or n.ports p d) c.hand_in.new.self _ c.hand_in.result c.hand_in.ensures)
 
 pub returns : goal.returns
 returns g c =
