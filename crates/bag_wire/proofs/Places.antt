@@ -8,7 +8,7 @@ use Rattle.std.proofs.lemmas.Bool.Decides.{nat_tests}
 use Rattle.wires.specs.Lines.{is_line, depth_of}
 use Rattle.wires.proofs.LineLaws.{line_ports}
 use Rattle.bag_wire.specs.declared.entry.Entry.{Entry}
-use Rattle.bag_wire.specs.Journals.{on, kept, Sound}
+use Rattle.bag_wire.specs.Journals.{on, Sound}
 use Rattle.bag_wire.proofs.JournalLaws.{blank, on_from}
 
 abbrev place : Entry → ℕ
