@@ -1,3 +1,5 @@
+#![tactic(auto)]
+
 // Both kinds of wire, tried from outside.
 #[cfg(test)]
 mod bags; // what only the bag wire does
