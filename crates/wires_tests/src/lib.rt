@@ -1,6 +1,6 @@
+// Both kinds of wire, tried from outside.
 #![tactic(auto)]
 
-// Both kinds of wire, tried from outside.
 #[cfg(test)]
 mod bags; // what only the bag wire does
 #[cfg(test)]
