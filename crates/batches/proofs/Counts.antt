@@ -1,5 +1,5 @@
 -- Counting, place by place, and the ones of a mask without one bit. Assumes nothing.
-use Rattle.std.proofs.Common.{◌≡◌, ℕ, suc, ◌+◌, ◌-◌, ◌*◌, ◌/◌, ◌%◌, ◌^◌, ◌<◌, ◌≤◌, Bool, true, false, cond, eqb, List, ◌∷◌, length, get_or, drop, filter, sym, refl, ap, ◌∙◌, subst, ⊎_elim, arith}
+use Rattle.std.proofs.Common.{◌≡◌, ℕ, ◌+◌, ◌*◌, ◌%◌, ◌^◌, ◌<◌, ◌≤◌, Bool, true, false, eqb, List, length, get_or, drop, filter, ap, ⊎_elim, arith}
 use native.Mathlib.Nat.{div-eq_of_lt}
 use lib.Count.{ones}
 use Rattle.std.proofs.lemmas.Nat.{one_shl, ones-le}

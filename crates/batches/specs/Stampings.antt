@@ -18,7 +18,7 @@ pub record Stamps (port : ℕ) (floor : Option Pair) (cuts : List ℕ) (undecide
   pub few : length undecided ≤ 16
   pub notices : batch_of b ≡ stamped port floor (batch cuts undecided)
   pub count : b.len ≡ length (stamped port floor (batch cuts undecided))
-  pub floor_after_lem : b.floor ≡ floor_after floor (stamped port floor (batch cuts undecided))
+  pub last : b.floor ≡ floor_after floor (stamped port floor (batch cuts undecided))
   pub fits : stampable (stamped port floor (batch cuts undecided)) ≡ true
 
 -- when a batch is not stamped

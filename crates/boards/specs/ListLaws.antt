@@ -1,5 +1,5 @@
 -- Lists of vessels: who is listed, and who is left without one. Assumes nothing.
-use Rattle.std.specs.Prelude.{◌≡◌, ℕ, ◌+◌, ◌<◌, ◌≤◌, true, false, not, ◌||◌, ◌⊎◌, [], ◌∷◌, ◌++◌, length, drop, ◌==◌, ◌≢◌, slice_index, refl}
+use Rattle.std.specs.Prelude.{◌≡◌, ℕ, ◌+◌, ◌<◌, ◌≤◌, true, false, not, ◌||◌, [], ◌∷◌, ◌++◌, length, drop, ◌==◌, ◌≢◌, slice_index, refl}
 use Rattle.std.proofs.Common.{sym, ap, ◌∙◌, subst, ⊎_elim, arith}
 use Rattle.std.proofs.lemmas.List.{at_drop_more}
 use Rattle.std.proofs.lemmas.Bool.{cases_eq, both_ways, eqb-false, eq-eqb, ne_eqb, cond-true, cond-false, and_parts, and_from, or_parts, or_from, or_left, not-true, not_from_true, not_from_false}

@@ -1,4 +1,6 @@
 // What a port shows of its berths: the trait that every kind of board meets, and two kinds of board.
+#![tactic(auto)]
+
 mod berth; // the vessels at one berth of the queue board
 pub mod board; // the trait, with the laws of a kind's rule
 pub mod first_come; // a berth has one vessel or none

@@ -1,11 +1,9 @@
 -- A batch is stamped notice by notice: the invariant survives it, and a dispatcher's notices stand behind his earlier ones.
-use Rattle.std.proofs.Common.{◌≡◌, ℕ, ◌+◌, ◌<◌, ◌≤◌, Bool, true, false, cond, ◌&&◌, eqb, ltb, ◌⊎◌, List, [], ◌∷◌, ◌++◌, map, filter, sym, refl, ap, ◌∙◌, subst, inl, inr, append_assoc, append-nil, arith}
+use Rattle.std.proofs.Common.{◌≡◌, ℕ, ◌+◌, ◌<◌, ◌≤◌, Bool, true, false, cond, ◌&&◌, eqb, List, [], ◌∷◌, ◌++◌, map, filter, sym, refl, ap, ◌∙◌, subst, inl, inr, append_assoc, append-nil}
 use mathlib.Core.List.Memᴰ
 use Rattle.ordered.specs.Orders.{placed}
-use Rattle.std.specs.List.{AllByRecursion as All}
-use Rattle.std.proofs.lemmas.Bool.{eqb-true, eqb-false, eq-eqb, ne_eqb, cases_Bool, and_parts, cond-true, cond-false, true≢false}
+use Rattle.std.proofs.lemmas.Bool.{eqb-true, eqb-false, eq-eqb, ne_eqb, cases_Bool, and_parts, cond-true, cond-false}
 use Rattle.records.specs.Keys.{decided_before}
-use Rattle.records.specs.declared.notice.Notice.{Notice}
 use Rattle.records.specs.declared.notice.Decided.{Decided}
 use Rattle.records.specs.declared.notice.Record.{Record}
 use Rattle.records.specs.declared.notice.Record.TheVariants.{Notice as Carries}
@@ -13,8 +11,8 @@ use Rattle.model.specs.Lists.{placed_all}
 use Rattle.model.specs.Batches.{goes_to, sent_to}
 use Rattle.model.specs.Histories.{is_from}
 use Rattle.model.specs.Law.{In}
-use Rattle.model.proofs.Heights.{height_of, key, level, Small, decided_key_lem}
-use Rattle.model.proofs.Inv.{State, AtMostOne, Marks, Stamps, Inv, Known}
+use Rattle.model.proofs.Heights.{height_of, key, Small, decided_key_lem}
+use Rattle.model.proofs.Inv.{State, AtMostOne, Stamps, Inv}
 use Rattle.model.proofs.Lists.{insert, insert_cases, kept_insert, kept_insert_not, insert_last, kept_mem, kept_passes, placed_insert}
 use Rattle.model.proofs.Stamp.{kept_by_stamp, behind}
 

@@ -1,10 +1,9 @@
 -- What a step carries over as floors and clearances rise and the common list grows; chains of records. Assumes nothing.
-use Rattle.std.proofs.Common.{◌≡◌, ℕ, ◌+◌, ◌<◌, ◌≤◌, Bool, true, false, cond, eqb, ◌⊎◌, List, [], ◌∷◌, ◌++◌, sym, refl, ap, ◌∙◌, subst, inl, inr, append-nil, arith}
+use Rattle.std.proofs.Common.{◌≡◌, ℕ, ◌+◌, ◌≤◌, Bool, true, eqb, List, [], ◌∷◌, ◌++◌, inl, inr, append-nil, arith}
 use mathlib.Core.List.Memᴰ
 use Rattle.std.proofs.lemmas.Bool.{eqb-true, cond_both}
 use Rattle.records.specs.declared.notice.Decided.{Decided}
 use Rattle.records.specs.declared.notice.Record.{Record}
-use Rattle.records.specs.declared.notice.Record.TheVariants.{Notice as Carries, Empty}
 use Rattle.model.specs.Law.{In}
 use Rattle.model.proofs.Lists.{by_cond}
 use Rattle.model.proofs.Heights.{level}

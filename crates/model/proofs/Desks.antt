@@ -1,9 +1,8 @@
 -- What a port keeps undecided: in the order of clock, dispatcher, count each dispatcher's notices stand by count.
-use Rattle.std.proofs.Common.{◌≡◌, ℕ, ◌+◌, ◌*◌, ◌<◌, ◌≤◌, max, Bool, true, false, cond, not, ◌&&◌, eqb, ltb, leb, ◌⊎◌, List, [], ◌∷◌, ◌++◌, map, get_or, filter, sym, refl, ap, ◌∙◌, subst, inl, inr, append-nil, arith}
-use mathlib.Core.List.{map-append}
+use Rattle.std.proofs.Common.{◌≡◌, ℕ, ◌+◌, ◌*◌, ◌<◌, ◌≤◌, max, Bool, true, not, eqb, ltb, leb, List, [], ◌∷◌, ◌++◌, get_or, filter, sym, refl, ap, ◌∙◌, subst, inl, inr, append-nil, arith}
 use Rattle.ordered.specs.Orders.{placed}
 use Rattle.std.proofs.lemmas.Bool.Decides.{nat_tests}
-use Rattle.std.proofs.lemmas.Bool.{eqb-true, eq-eqb, cases_Bool, and_parts, and_from, cond-true, cond-false, cond_both}
+use Rattle.std.proofs.lemmas.Bool.{eqb-true, eq-eqb, cases_Bool, and_parts, cond-true, cond-false, cond_both}
 use Rattle.records.specs.Keys.{handed_before}
 use Rattle.records.specs.Masks.{named}
 use Rattle.records.specs.declared.notice.Notice.{Notice}
@@ -11,7 +10,7 @@ use Rattle.records.specs.declared.notice.Handed.{Handed}
 use Rattle.model.specs.Views.{PortView}
 use Rattle.model.specs.Batches.{within, batch, left}
 use Rattle.model.specs.Calls.{HandIn, Decide, handed_of}
-use Rattle.model.specs.Steps.{changed, after_hand_in, after_decide}
+use Rattle.model.specs.Steps.{after_hand_in, after_decide}
 use Rattle.model.specs.Histories.{is_from}
 use Rattle.model.specs.Law.{In}
 use Rattle.model.proofs.Lists.{Sorted, insert, insert_cases, sorted_insert, sorted_kept, sorted_push, insert_last, kept_insert, kept_insert_not, kept_mem, kept_passes, kept_swap, kept_same, cut_front, placed_insert}

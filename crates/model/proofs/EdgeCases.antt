@@ -1,9 +1,7 @@
 -- The edges hold.
-use Rattle.std.proofs.Common.{◌≡◌, ℕ, ◌<◌, max, Bool, true, false, cond, not, ◌&&◌, eqb, ltb, List, ◌∷◌, Some, Option, sym, refl, ap, ◌∙◌, subst}
+use Rattle.std.proofs.Common.{◌≡◌, ℕ, ◌<◌, max, Bool, true, false, cond, not, eqb, List, ◌∷◌, Some, Option, refl, ap, ◌∙◌}
 use Rattle.std.proofs.lemmas.Bool.{lt-ltb, eq-eqb, cond-true, and_left}
-use Rattle.records.specs.declared.fault.NetFault.{NetFault}
 use Rattle.records.specs.declared.fault.NetFault.TheVariants.{NoSuchPort, StepUsedUp}
-use Rattle.records.specs.declared.stamp.Pair.{Pair}
 use Rattle.records.specs.declared.notice.Handed.{Handed}
 use Rattle.model.specs.Stamping.{next_pair, step_fits, stamped, stampable}
 use Rattle.model.specs.Views.{PortView, View, outside}

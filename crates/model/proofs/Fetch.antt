@@ -1,5 +1,5 @@
 -- The invariant survives a fetch.
-use Rattle.std.proofs.Common.{◌≡◌, ℕ, ◌+◌, ◌*◌, ◌<◌, ◌≤◌, Bool, true, false, cond, ◌&&◌, eqb, ◌⊎◌, List, [], ◌∷◌, ◌++◌, sym, refl, ap, ◌∙◌, subst, inl, inr, arith}
+use Rattle.std.proofs.Common.{◌≡◌, ℕ, ◌+◌, ◌<◌, ◌≤◌, Bool, true, ◌&&◌, eqb, List, ◌∷◌, sym, refl, ap, ◌∙◌, subst, inl, inr, arith}
 use mathlib.Core.List.Memᴰ
 use Rattle.std.proofs.lemmas.Bool.{eqb-true, eq-eqb, cond_both, cases_Bool, and_parts}
 use Rattle.records.specs.declared.notice.Decided.{Decided}
@@ -9,7 +9,7 @@ use Rattle.model.specs.Law.{In}
 use Rattle.model.proofs.Heights.{height_of, key, level}
 use Rattle.model.proofs.Inv.{State, taken, Fetches, Chain, Inv, Waits, Rides, Pending}
 use Rattle.model.proofs.Carry.{known_up, passed_up, waits_up}
-use Rattle.model.proofs.Lists.{Sorted, insert, by_cond, insert_cases, mem_insert, mem_inserted, sorted_insert}
+use Rattle.model.proofs.Lists.{Sorted, by_cond, insert_cases, mem_insert, mem_inserted, sorted_insert}
 
 mem_taken : {x : Decided} (g : Record) (xs : List Decided) → In x xs → In x (taken g xs)
 mem_taken (Carries y) xs d = mem_insert key y xs d

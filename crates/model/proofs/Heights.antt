@@ -1,10 +1,9 @@
 -- One number for a pair, which orders as clock, then step does. Assumes nothing.
-use Rattle.std.proofs.Common.{◌≡◌, ℕ, ◌+◌, ◌*◌, ◌<◌, ◌≤◌, true, ltb, leb, Some, None, Option, arith}
+use Rattle.std.proofs.Common.{◌≡◌, ℕ, ◌+◌, ◌*◌, ◌<◌, true, ltb, Some, None, Option, arith}
 use Rattle.std.proofs.lemmas.Bool.{leb-true}
-use Rattle.records.specs.Keys.{pair_before, stamp_before, decided_before}
+use Rattle.records.specs.Keys.{pair_before, decided_before}
 use Rattle.records.proofs.Ranks.{rank, pair_rank, stamp_rank_lem}
 use Rattle.records.specs.declared.stamp.Pair.{Pair}
-use Rattle.records.specs.declared.stamp.Stamp.{Stamp}
 use Rattle.records.specs.declared.notice.Decided.{Decided}
 use Rattle.records.specs.declared.notice.Record.{Record}
 use Rattle.records.specs.declared.notice.Record.TheVariants.{Notice as Carries, Empty}

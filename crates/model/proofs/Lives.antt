@@ -1,7 +1,7 @@
 -- What holds of every net that calls have led to; a net just opened; calls that leave the order alone.
-use Rattle.std.proofs.Common.{◌≡◌, ℕ, ◌+◌, ◌<◌, ◌≤◌, Bool, true, false, cond, not, ◌&&◌, ◌||◌, eqb, ltb, leb, ◌⊎◌, List, [], ◌∷◌, ◌++◌, map, length, Some, None, fold, filter, Option, sym, refl, ap, ◌∙◌, subst, inl, inr, append_assoc, append-nil, arith}
+use Rattle.std.proofs.Common.{◌≡◌, ℕ, ◌<◌, Bool, true, false, cond, not, ◌&&◌, eqb, List, [], ◌∷◌, ◌++◌, map, None, fold, filter, sym, refl, ap, ◌∙◌, subst, inl, inr, append_assoc, append-nil, arith}
 use mathlib.Core.List.{map-append}
-use Rattle.std.proofs.lemmas.Bool.{eqb-true, eqb-false, cases_Bool, and_parts, or_parts, and_from, and_left, eq-eqb, ne_eqb, false≢true, leb-false, not-false, cond-true, cond-false, cond_both}
+use Rattle.std.proofs.lemmas.Bool.{eqb-true, eqb-false, cases_Bool, and_parts, or_parts, and_from, and_left, eq-eqb, ne_eqb, false≢true, leb-false, not-false, cond-true, cond-false}
 use Rattle.records.specs.declared.notice.Notice.{Notice}
 use Rattle.records.specs.Masks.{named}
 use Rattle.records.specs.declared.notice.Handed.{Handed}
@@ -9,7 +9,7 @@ use Rattle.records.specs.declared.notice.Decided.{Decided}
 use Rattle.records.specs.declared.notice.Record.{Record}
 use Rattle.wires.specs.Lines.{Lines, SameBut}
 use Rattle.boards.specs.Rules.{Rule, Vessels}
-use Rattle.model.specs.Views.{Table, PortView, View, Reaches, Opened, sends, outside, fresh}
+use Rattle.model.specs.Views.{Table, PortView, View, Reaches, Opened, sends, fresh}
 use Rattle.model.specs.Calls.{HandIn, notice_of, handed_of}
 use Rattle.model.specs.Refusals.{in_reach, hand_in_fault}
 use Rattle.model.specs.Steps.{OnlyPort, HandsIn, Brings, pair_of, turned, after_hand_in}

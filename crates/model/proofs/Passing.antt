@@ -1,8 +1,8 @@
 -- What a call that is not refused has passed. Assumes nothing.
-use Rattle.std.proofs.Common.{◌≡◌, ℕ, zero, suc, ◌+◌, ◌^◌, ◌<◌, ◌≤◌, Bool, true, false, cond, not, ◌&&◌, ◌||◌, eqb, ltb, leb, ◌⊎◌, List, [], ◌∷◌, Some, None, Option, sym, refl, ap, ◌∙◌, subst, inl, inr, arith, pow_pos}
+use Rattle.std.proofs.Common.{◌≡◌, ℕ, zero, suc, ◌+◌, ◌^◌, ◌<◌, Bool, true, false, cond, not, ◌||◌, eqb, ltb, ◌⊎◌, List, [], ◌∷◌, Some, None, Option, sym, refl, ◌∙◌, subst, inl, inr, arith, pow_pos}
 use mathlib.Core.List.Memᴰ
 use Rattle.ordered.specs.Orders.{all_pass}
-use Rattle.std.proofs.lemmas.Bool.{cases_Bool, and_parts, or_cases, eqb-true, eqb-false, ltb-true, leb-true, leb-false, ltb-false, false≢true, true≢false, not-false, not-true, cond-true}
+use Rattle.std.proofs.lemmas.Bool.{cases_Bool, and_parts, or_cases, eqb-true, eqb-false, ltb-true, ltb-false, false≢true, not-false, not-true, cond-true}
 use Rattle.records.specs.Masks.{named}
 use Rattle.records.proofs.MaskLaws.{none_above}
 use Rattle.model.specs.Lists.{every, mask_of}

@@ -1,16 +1,15 @@
 -- The invariant survives a release.
-use Rattle.std.proofs.Common.{◌≡◌, ℕ, ◌+◌, ◌*◌, ◌<◌, ◌≤◌, max, Bool, true, false, cond, eqb, ◌⊎◌, List, [], ◌∷◌, ◌++◌, sym, refl, ap, ◌∙◌, subst, inl, inr, append_assoc, arith}
+use Rattle.std.proofs.Common.{◌≡◌, ℕ, ◌+◌, ◌<◌, ◌≤◌, max, Bool, true, false, cond, eqb, List, [], ◌∷◌, ◌++◌, sym, refl, ap, ◌∙◌, subst, inl, inr, append_assoc, arith}
 use mathlib.Core.List.Memᴰ
 use Rattle.std.proofs.lemmas.Bool.{eqb-true, cond_both, both_ways}
 use Rattle.records.specs.declared.notice.Decided.{Decided}
-use Rattle.records.specs.declared.notice.Record.{Record}
-use Rattle.records.specs.declared.notice.Record.TheVariants.{Notice as Carries, Empty}
-use Rattle.model.specs.Batches.{goes_to, sent_to}
+use Rattle.records.specs.declared.notice.Record.TheVariants.{Notice as Carries}
+use Rattle.model.specs.Batches.{goes_to}
 use Rattle.model.specs.Law.{In}
 use Rattle.model.proofs.Heights.{height_of, key}
 use Rattle.model.proofs.Inv.{State, Releases, Inv, Split, Waits, Rides, Passed, Known, Pending, grown}
 use Rattle.model.proofs.Carry.{known_up, passed_up, chain_low, chain_higher, chain_ends}
-use Rattle.model.proofs.Lists.{Sorted, by_cond, all_mem, push_cases, sorted_tail, least_first, sorted_first, sorted_kept, mem_kept, kept_mem, kept_passes}
+use Rattle.model.proofs.Lists.{Sorted, by_cond, all_mem, push_cases, sorted_tail, least_first, sorted_first, sorted_kept, mem_kept}
 
 module _ (sends : ℕ → ℕ → Bool) (s t : State) (c : List Decided) (book : ℕ → List Decided) (p : ℕ) (m : Decided) (i : Inv sends s c book) (r : Releases sends s t p m) where
   rise : (q : ℕ) → s.floor q ≤ t.floor q

@@ -1,5 +1,5 @@
 -- What the law of one order needs of the rules for floors, clearances and holding.
-use Rattle.std.proofs.Common.{◌≡◌, ℕ, ◌+◌, ◌*◌, ◌<◌, ◌≤◌, max, Bool, true, false, cond, ◌&&◌, eqb, Some, None, Option, sym, refl, ap, ◌∙◌, inl, inr, arith}
+use Rattle.std.proofs.Common.{◌≡◌, ℕ, ◌+◌, ◌<◌, ◌≤◌, max, false, cond, eqb, Some, None, Option, refl, inl, inr, arith}
 use Rattle.std.proofs.lemmas.Bool.{cases_Bool, cond_both, true≢false}
 use Rattle.std.proofs.lemmas.Bool.Decides.{nat_tests}
 use Rattle.records.specs.Keys.{pair_before}
@@ -10,7 +10,7 @@ use Rattle.records.specs.declared.notice.Record.TheVariants.{Notice as Carries, 
 use Rattle.model.specs.Views.{PortView}
 use Rattle.model.specs.Stamping.{next_pair, raised}
 use Rattle.model.specs.Holding.{holds}
-use Rattle.model.specs.Steps.{pair_of, after_clear, after_fetch, after_release}
+use Rattle.model.specs.Steps.{after_clear, after_fetch, after_release}
 use Rattle.model.proofs.Heights.{height, level, bound, Small, AnySmall}
 
 -- what a port stamps is above its floor

@@ -1,15 +1,12 @@
 -- What decide and clear keep.
-use Rattle.std.proofs.Common.{◌≡◌, ℕ, ◌+◌, ◌<◌, ◌≤◌, Bool, true, false, cond, not, ◌&&◌, ◌||◌, eqb, ltb, leb, ◌⊎◌, List, [], ◌∷◌, ◌++◌, map, length, Some, None, filter, Option, sym, refl, ap, ◌∙◌, subst, inl, inr, append_assoc, append-nil, arith}
+use Rattle.std.proofs.Common.{◌≡◌, ℕ, ◌+◌, ◌<◌, ◌≤◌, Bool, true, false, cond, not, ◌&&◌, ◌||◌, eqb, ltb, List, [], ◌∷◌, ◌++◌, map, Some, filter, Option, sym, refl, ap, ◌∙◌, subst, inl, inr, append_assoc, append-nil, arith}
 use mathlib.Core.List.Memᴰ
 use mathlib.Core.List.{map-append}
-use Rattle.ordered.specs.Orders.{placed}
-use Rattle.std.proofs.lemmas.Bool.{eqb-true, eqb-false, eq-eqb, ne_eqb, cases_Bool, and_parts, and_from, and_left, and_right, lt-ltb, ltb-true, not-false, not_from_false, cond-true, cond-false, false≢true, true≢false}
+use Rattle.std.proofs.lemmas.Bool.{eqb-true, eqb-false, eq-eqb, ne_eqb, cases_Bool, and_parts, and_from, and_left, and_right, lt-ltb, not-false, not_from_false, cond-true, cond-false, true≢false}
 use Rattle.records.specs.Keys.{decided_before}
-use Rattle.records.specs.Masks.{named}
 use Rattle.records.specs.declared.fault.NetFault.TheVariants.{NoSuchPort, WorkingListShort, WrongNumber, WrongCut, StepUsedUp}
 use Rattle.records.specs.declared.stamp.Pair.{Pair}
 use Rattle.records.specs.declared.stamp.Stamp.{Stamp}
-use Rattle.records.specs.declared.notice.Notice.{Notice}
 use Rattle.records.specs.declared.notice.Handed.{Handed}
 use Rattle.records.specs.declared.notice.Decided.{Decided}
 use Rattle.records.specs.declared.notice.Record.{Record}
@@ -17,23 +14,23 @@ use Rattle.records.specs.declared.notice.Record.TheVariants.{Notice as Carries, 
 use Rattle.wires.specs.Lines.{is_line}
 use Rattle.boards.specs.Rules.{Rule}
 use Rattle.model.specs.Lists.{placed_all}
-use Rattle.model.specs.Views.{Table, PortView, View, Reaches, sends, outside}
-use Rattle.model.specs.Stamping.{next_pair, step_fits, stamped, stamped_by, floor_after, stampable}
+use Rattle.model.specs.Views.{Table, PortView, View, sends, outside}
+use Rattle.model.specs.Stamping.{next_pair, step_fits, stamped, floor_after, stampable}
 use Rattle.model.specs.Batches.{within, batch, left, goes_to, sent_to, copies_on}
 use Rattle.model.specs.Calls.{Decide, decision}
-use Rattle.model.specs.Refusals.{cuts_fit, decide_fault, clear_fault, clearance_on, clearance_stamp}
+use Rattle.model.specs.Refusals.{cuts_fit, clearance_on, clearance_stamp}
 use Rattle.model.specs.Steps.{Decides, Clears, pair_of, after_decide, after_clear}
-use Rattle.model.specs.Histories.{History, decided, cleared, common, book, is_from, handed_by}
+use Rattle.model.specs.Histories.{History, decided, cleared, common, book, is_from}
 use Rattle.model.specs.Law.{In, said_by}
-use Rattle.model.proofs.Lists.{kept_mem, kept_passes, kept_none, kept_map}
-use Rattle.model.proofs.Heights.{height, height_of, key, bound, AnySmall, Small, fits_small}
+use Rattle.model.proofs.Lists.{kept_mem, kept_none, kept_map}
+use Rattle.model.proofs.Heights.{height, height_of, bound, AnySmall, Small, fits_small}
 use Rattle.model.proofs.Rules.{next_above, clear_floor}
 use Rattle.model.proofs.Inv.{State, AtMostOne, Inv}
 use Rattle.model.proofs.Inv as Core
 use Rattle.model.proofs.Clear.{kept_by_clear}
 use Rattle.model.proofs.Batch.{insert_all, copies, last_of, Stampable, AllStampable, Good, kept_by_batch, batch_last, good_places, stampable_good}
 use Rattle.model.proofs.Batch as Folded
-use Rattle.model.proofs.Passing.{passes, all_pass_lem, inside_table}
+use Rattle.model.proofs.Passing.{passes, inside_table}
 use Rattle.model.proofs.Desks.{of_him, Entry, Desk, desk_decide, his_cut}
 use Rattle.model.proofs.Lives.{state_of, undecided_of, Whole, cond_when, port_field, port_same, port_all}
 

@@ -1,18 +1,18 @@
 -- Every net that calls have led to keeps the law of one order.
-use Rattle.std.proofs.Common.{◌≡◌, ℕ, ◌+◌, ◌*◌, ◌<◌, ◌≤◌, Bool, true, false, cond, not, ◌&&◌, eqb, ltb, leb, ◌⊎◌, List, [], ◌∷◌, ◌++◌, length, Some, None, fold, filter, Option, sym, refl, ap, ◌∙◌, subst, inl, inr, append_assoc, arith}
+use Rattle.std.proofs.Common.{◌≡◌, ℕ, ◌<◌, Bool, true, cond, not, ◌&&◌, eqb, ltb, leb, ◌⊎◌, List, [], ◌∷◌, ◌++◌, length, Some, None, fold, filter, Option, sym, refl, ap, ◌∙◌, subst, inl, inr, append_assoc, arith}
 use mathlib.Core.List.Memᴰ
 use Rattle.ordered.specs.Orders.{all_pass, Strict}
-use Rattle.std.specs.List.{AllByRecursion as All}
+use Rattle.std.specs.List.{AllByRecursion}
 use Rattle.std.proofs.lemmas.List.Elements.{filter-append}
 use Rattle.std.proofs.lemmas.Bool.{cases_Bool, and_from, cond-true, lt-ltb, le-ltb}
 use Rattle.records.specs.Keys.{decided_before}
 use Rattle.records.specs.declared.notice.Decided.{Decided}
 use Rattle.boards.specs.Rules.{Rule, Vessels, Turn}
 use Rattle.boards.specs.declared.outcome.Outcome.TheVariants.{Clash}
-use Rattle.model.specs.Views.{Table, View, sends}
-use Rattle.model.specs.Batches.{goes_to, sent_to}
+use Rattle.model.specs.Views.{Table, View}
+use Rattle.model.specs.Batches.{goes_to}
 use Rattle.model.specs.Histories.{Told, handed, decided, cleared, brought, fetched, released, refused, History, common, book, last_released, Step, Lived, opened, called}
-use Rattle.model.specs.Law.{In, up_to, about, about_berth, said_by, AllTo, OneOrder, LawOfOneOrder}
+use Rattle.model.specs.Law.{In, up_to, about, about_berth, AllTo, OneOrder, LawOfOneOrder}
 use Rattle.model.proofs.Lists.{Sorted, all_mem, sorted_tail, sorted_before, sorted_kept, kept_mem, kept_passes, kept_all, kept_none, kept_twice, kept_swap, same_front}
 use Rattle.model.proofs.Heights.{key, decided_key_lem}
 use Rattle.model.proofs.Batch.{Good}
@@ -45,7 +45,7 @@ strict : (xs : List Decided) → Sorted key xs → ((x : Decided) → In x xs �
 strict [] so k = refl
 strict (x ∷ xs) so k = and_from _ _ (passing xs so.0 (λ y d. k y (Memᴰ.tail d))) (strict xs so.1 (λ y d. k y (Memᴰ.tail d)))
   where
-    passing : (ys : List Decided) → All (λ y. key x < key y) ys → ((y : Decided) → In y ys → Good y) → all_pass (decided_before x) ys ≡ true
+    passing : (ys : List Decided) → AllByRecursion (λ y. key x < key y) ys → ((y : Decided) → In y ys → Good y) → all_pass (decided_before x) ys ≡ true
     passing [] a g = refl
     passing (y ∷ ys) a g = and_from _ _ (before_key x y (k x (Memᴰ.head refl)) (g y (Memᴰ.head refl)) ∙ lt-ltb (key x) (key y) a.0) (passing ys a.1 (λ z d. g z (Memᴰ.tail d)))
 

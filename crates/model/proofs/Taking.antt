@@ -1,28 +1,24 @@
 -- What fetch and release keep.
-use Rattle.std.proofs.Common.{◌≡◌, ℕ, ◌+◌, ◌<◌, ◌≤◌, max, Bool, true, false, cond, not, ◌&&◌, ◌||◌, eqb, ltb, leb, ◌⊎◌, List, [], ◌∷◌, ◌++◌, length, Some, None, fold, filter, Option, sym, refl, ap, ◌∙◌, subst, inl, inr, append-nil, arith}
+use Rattle.std.proofs.Common.{◌≡◌, ℕ, ◌+◌, ◌<◌, Bool, true, false, cond, ◌&&◌, eqb, ltb, List, [], ◌∷◌, ◌++◌, length, Some, Option, sym, refl, ap, ◌∙◌, subst, inl, inr, append-nil, arith}
 use mathlib.Core.List.Memᴰ
-use Rattle.ordered.specs.Orders.{placed}
 use Rattle.std.proofs.lemmas.List.Elements.{filter-append}
 use Rattle.std.proofs.lemmas.List.Sums.{fold_push}
-use Rattle.std.proofs.lemmas.Bool.{eqb-true, eq-eqb, cases_Bool, and_parts, and_cases, cond-true, cond-false, ltb-false, true≢false}
+use Rattle.std.proofs.lemmas.Bool.{eqb-true, cases_Bool, and_parts, and_cases, cond-true, cond-false, ltb-false, true≢false}
 use Rattle.records.specs.declared.fault.NetFault.TheVariants.{NoSuchPort, NothingWaits, Held}
 use Rattle.records.specs.declared.stamp.Pair.{Pair}
-use Rattle.records.specs.declared.notice.Notice.{Notice}
 use Rattle.records.specs.declared.notice.Decided.{Decided}
 use Rattle.records.specs.declared.notice.Record.{Record}
 use Rattle.records.specs.declared.notice.Record.TheVariants.{Notice as Carries, Empty}
 use Rattle.boards.specs.Rules.{Rule, Vessels}
 use Rattle.boards.specs.declared.outcome.Outcome.{Outcome}
 use Rattle.model.specs.Lists.{rest}
-use Rattle.model.specs.Views.{Table, PortView, View, Reaches, sends, outside}
-use Rattle.model.specs.Stamping.{raised}
+use Rattle.model.specs.Views.{Table, View, sends, outside}
 use Rattle.model.specs.Holding.{holds, holders}
-use Rattle.model.specs.Refusals.{release_fault, held_by}
-use Rattle.model.specs.Steps.{Fetches, Releases, pair_of, joined, changed, turned, is_about, after_fetch, after_release}
+use Rattle.model.specs.Refusals.{held_by}
+use Rattle.model.specs.Steps.{Fetches, Releases, pair_of, joined, turned, is_about, after_fetch, after_release}
 use Rattle.model.specs.Histories.{History, fetched, released, common, book}
 use Rattle.model.specs.Law.{In, about, about_berth, said_by}
-use Rattle.model.proofs.Lists.{insert, cond_ap}
-use Rattle.model.proofs.Heights.{height, height_of, key, level, bound, AnySmall, Small}
+use Rattle.model.proofs.Heights.{height_of, level, bound, AnySmall, Small}
 use Rattle.model.proofs.Rules.{release_floor, raised_small, fetch_clearance, not_held}
 use Rattle.model.proofs.Inv.{State, Inv, taken}
 use Rattle.model.proofs.Inv as Core
@@ -30,7 +26,7 @@ use Rattle.model.proofs.Fetch.{kept_by_fetch}
 use Rattle.model.proofs.Release.{kept_by_release}
 use Rattle.model.proofs.Batch.{Good, good_place}
 use Rattle.model.proofs.Passing.{passes, mask_none}
-use Rattle.model.proofs.Desks.{Entry, Desk}
+use Rattle.model.proofs.Desks.{Desk}
 use Rattle.model.proofs.Lives.{state_of, undecided_of, showing, Whole, cond_when, port_field, port_same, port_all, held_by_lem}
 
 -- FETCH

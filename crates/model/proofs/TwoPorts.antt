@@ -1,13 +1,12 @@
 -- The run of two ports with a late link.
-use Rattle.std.proofs.Common.{◌≡◌, ℕ, ◌<◌, ◌≤◌, Bool, true, false, cond, eqb, ◌⊎◌, List, [], ◌∷◌, sym, refl, ap, ◌∙◌, subst, inl, inr, arith, lit<, lit≤}
+use Rattle.std.proofs.Common.{◌≡◌, ℕ, ◌<◌, true, false, cond, eqb, [], ◌∷◌, refl, subst, inl, inr, arith, lit<, lit≤}
 use lib.Count.{ones, ones_in}
 use Rattle.std.proofs.lemmas.Bool.{cases_Bool, eqb-true, false≢true}
-use Rattle.records.specs.Masks.{named}
 use Rattle.records.specs.declared.notice.Record.TheVariants.{Notice as Carries}
 use Rattle.records.specs.declared.fault.NetFault.TheVariants.{NothingArrived, Held}
 use Rattle.boards.specs.Rules.{Rule}
 use Rattle.wires.specs.Lines.{empty_line}
-use Rattle.model.specs.Views.{Table, View, Reaches, Opened, sends, fresh}
+use Rattle.model.specs.Views.{Table, View, Opened, sends, fresh}
 use Rattle.model.specs.Calls.{fetch, release}
 use Rattle.model.specs.Histories.{History, handed, decided, brought, fetched, released, refused, Lived, opened, called}
 use Rattle.model.specs.Runs.{seven, nine, seven_decided, nine_decided, decide_one, late_link, LateLink}

@@ -1,10 +1,8 @@
 -- What a decide takes and what it sends. Assumes nothing.
-use Rattle.std.specs.Prelude.{ℕ, ◌-◌, ◌^◌, Bool, cond, not, ◌&&◌, List, [], ◌∷◌, map, length, sum_by, filter, ◌==◌, count_ones, nat_eq, nat_le, slice_index}
+use Rattle.std.specs.Prelude.{ℕ, ◌-◌, ◌^◌, Bool, cond, not, ◌&&◌, List, [], map, length, sum_by, filter, ◌==◌, count_ones, nat_eq, nat_le, slice_index}
 use Rattle.records.specs.Masks.{named}
-use Rattle.records.specs.declared.notice.Notice.{Notice}
 use Rattle.records.specs.declared.notice.Handed.{Handed}
 use Rattle.records.specs.declared.notice.Decided.{Decided}
-use Rattle.records.specs.declared.notice.Record.{Record}
 use Rattle.records.specs.declared.notice.Record.TheVariants.{Notice as Carries}
 use Rattle.wires.specs.Lines.{is_line}
 use Rattle.wires.specs.Growths.{Extra}

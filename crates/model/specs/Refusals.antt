@@ -1,7 +1,6 @@
 -- When a call is refused, and by which fault: the first in checking order whose test passes. Assumes nothing.
 use Rattle.std.specs.Prelude.{ℕ, ◌+◌, ◌-◌, Bool, true, false, cond, not, ◌&&◌, ◌||◌, ltb, leb, List, [], ◌∷◌, length, Some, None, Option, ◌==◌, nat_eq, nat_le, nat_lt, slice_index}
 use Rattle.records.specs.Masks.{named}
-use Rattle.records.specs.declared.mask.Mask.{Mask}
 use Rattle.records.specs.declared.fault.NetFault.{NetFault}
 use Rattle.records.specs.declared.fault.NetFault.TheVariants.{NoSuchPort, OutOfReach, NoSuchDispatcher, WrongContent, WrongDestinations, CountUsedUp, UndecidedFull, WorkingListShort, WrongNumber, WrongCut, StepUsedUp, OwnWaitingFull, LineFull, NothingArrived, SourceWaitingFull, NothingWaits, Held}
 use Rattle.records.specs.declared.stamp.Stamp.{Stamp}
@@ -14,7 +13,7 @@ use Rattle.model.specs.Lists.{every}
 use Rattle.model.specs.Views.{Table, PortView, View, sends, outside}
 use Rattle.model.specs.Stamping.{next_pair, step_fits, stampable}
 use Rattle.model.specs.Holding.{holders}
-use Rattle.model.specs.Batches.{goes_to, sent_to, copies_on, count_from}
+use Rattle.model.specs.Batches.{sent_to, copies_on, count_from}
 use Rattle.model.specs.Calls.{HandIn, Decide, Call, hand_in, decide, clear, bring, fetch, release, decision}
 
 infixr 20 ◌when◌else◌

@@ -1,6 +1,5 @@
 -- A run of two ports with a late link. Assumes nothing.
 use Rattle.std.specs.Prelude.{◌≡◌, ℕ, [], ◌∷◌}
-use Rattle.records.specs.declared.mask.Mask.{Mask}
 use Rattle.records.specs.declared.fault.NetFault.TheVariants.{NothingArrived, Held}
 use Rattle.records.specs.declared.notice.Decided.{Decided}
 use Rattle.boards.specs.Rules.{Rule}

@@ -3,7 +3,6 @@ use Rattle.std.specs.Prelude.{ℕ, ◌+◌, max, Bool, cond, List, [], ◌∷◌
 use Rattle.ordered.specs.Orders.{all_pass}
 use Rattle.records.specs.Keys.{pair_before}
 use Rattle.records.specs.declared.stamp.Pair.{Pair}
-use Rattle.records.specs.declared.stamp.Stamp.{Stamp}
 use Rattle.records.specs.declared.notice.Handed.{Handed}
 use Rattle.records.specs.declared.notice.Decided.{Decided}
 

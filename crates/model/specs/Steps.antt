@@ -1,10 +1,9 @@
 -- What each call does to a net. Assumes nothing.
-use Rattle.std.specs.Prelude.{◌≡◌, ℕ, ◌+◌, ◌≤◌, Bool, cond, ◌&&◌, List, [], ◌∷◌, ◌++◌, length, Some, None, Option, ◌==◌, nat_le, nat_lt, slice_index}
+use Rattle.std.specs.Prelude.{◌≡◌, ℕ, ◌+◌, Bool, cond, ◌&&◌, List, ◌∷◌, length, Some, None, ◌==◌, nat_le, nat_lt, slice_index}
 use Rattle.records.specs.Keys.{handed_before, decided_before}
 use Rattle.records.specs.declared.fault.NetFault.{NetFault}
 use Rattle.records.specs.declared.stamp.Pair.{Pair}
 use Rattle.records.specs.declared.notice.Notice.{Notice}
-use Rattle.records.specs.declared.notice.Handed.{Handed}
 use Rattle.records.specs.declared.notice.Decided.{Decided}
 use Rattle.records.specs.declared.notice.Record.{Record}
 use Rattle.records.specs.declared.notice.Record.TheVariants.{Notice as Carries, Empty}
@@ -16,9 +15,9 @@ use Rattle.boards.specs.declared.outcome.Outcome.TheVariants.{Clash}
 use Rattle.ordered.specs.Orders.{placed}
 use Rattle.model.specs.Lists.{placed_all, rest}
 use Rattle.model.specs.Views.{PortView, View}
-use Rattle.model.specs.Stamping.{next_pair, raised, floor_after}
+use Rattle.model.specs.Stamping.{raised, floor_after}
 use Rattle.model.specs.Batches.{left, sent_to, copies_on, copies_of}
-use Rattle.model.specs.Calls.{HandIn, Decide, Call, notice_of, handed_of, decision}
+use Rattle.model.specs.Calls.{HandIn, Decide, Call, handed_of, decision}
 use Rattle.model.specs.Refusals.{hand_in_fault, decide_fault, clear_fault, bring_fault, fetch_fault, release_fault, fault_of, oldest, clearance_on, clearance_stamp}
 
 -- WHAT A CALL MAKES OF A PORT

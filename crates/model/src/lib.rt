@@ -1,5 +1,7 @@
 // What a net means, what each call does to it, and the law of one order. The functions compute nothing: each promises a
 // theorem, for whoever builds on it.
+#![tactic(auto)]
+
 ghost use Rattle.std.specs.Prelude.{ℕ};
 ghost use Rattle.boards.specs.Rules.{Rule};
 ghost use Rattle.model.specs.Answers.{OneAnswer};

@@ -1,5 +1,5 @@
 -- Counts by source, and the room that at most eight of each of eight ports leave. Assumes nothing.
-use Rattle.std.proofs.Common.{◌≡◌, ℕ, zero, suc, ◌+◌, ◌-◌, ◌*◌, ◌<◌, ◌≤◌, Bool, true, false, cond, eqb, ltb, ◌⊎◌, List, [], ◌∷◌, length, take, Some, None, Ok, Err, Option, Result, sym, refl, ap, ◌∙◌, ⊎_elim, arith}
+use Rattle.std.proofs.Common.{◌≡◌, ℕ, zero, suc, ◌+◌, ◌-◌, ◌*◌, ◌<◌, ◌≤◌, Bool, true, false, cond, eqb, ltb, List, [], ◌∷◌, length, take, Some, None, Ok, Err, Option, Result, sym, refl, ap, ◌∙◌, ⊎_elim, arith}
 use Rattle.std.proofs.lemmas.Bool.{cond-true, cond-false, cond_both, cases_eq, cases_Bool, eq-eqb, ne_eqb, lt-ltb, le-ltb, and_parts}
 use Rattle.std.proofs.lemmas.Bool.Decides.{nat_tests}
 use Rattle.ordered.specs.Orders.{all_pass, placed}
@@ -8,7 +8,6 @@ use Rattle.ordered.proofs.Rises.{all_placed}
 use Rattle.records.specs.Keys.{decided_before, decided_key}
 use Rattle.records.specs.declared.notice.Decided.{Decided}
 use Rattle.model.specs.Batches.{count_from}
-use Rattle.model.specs.Lists.{rest}
 
 -- the stamp is of one of the eight ports
 abbrev pub known : Decided → Bool

@@ -1,4 +1,6 @@
 // One port: everything that it does by itself, without wire or board.
+#![tactic(auto)]
+
 pub mod port; // a port, and what it does by itself
 pub mod undecided; // the notices handed in and not decided
 pub mod waiting; // the notices that wait for release

@@ -1,4 +1,6 @@
 // What a decide and a clear put on the lines, over any kind of wire.
+#![tactic(auto)]
+
 pub mod room; // whether the lines have room for the copies of a batch
 pub mod sending; // the copies of a batch, or a clearance, put on the lines
 

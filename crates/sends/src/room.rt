@@ -27,14 +27,14 @@ fn copies_to(notices: &[Decided], port: u8, to: u8) -> usize
 
 // Whether the line from the port to another has a free place for each copy that it is to get.
 fn fits<W: Wire>(wire: &W, port: u8, to: u8, notices: &[Decided]) -> bool
-    ensures { result ≡ nat_le (length (copies_on port notices.now port to)) (depth_of depth port to - length (line wire.now port to).held) }
+    ensures { result ≡ nat_le (length (copies_on port notices.now port to)) (depth_of W.depth port to - length (W.line wire.now port to).held) }
 {
     copies_to(notices, port, to) <= wire.free(port, to)
 }
 
 // Whether each line from the port has a free place for each copy that it is to get.
 pub fn has_room<W: Wire>(wire: &W, port: u8, notices: &[Decided]) -> bool
-    ensures { result ≡ room depth (line wire.now) port (copies_on port notices.now) }
+    ensures { result ≡ room W.depth (W.line wire.now) port (copies_on port notices.now) }
 {
     for to in 0..8u8 {
         if !fits(wire, port, to, notices) {

@@ -17,7 +17,7 @@ use wires::wire::Wire;
 // Puts the copies of a batch on the lines from the port that decides it, notice by notice, or, where one of these lines
 // has too few free places, none.
 pub fn send_batch<W: Wire>(wire: &mut W, port: u8, notices: &[Decided]) -> Result<(), NetFault>
-    ensures { AllOrNone line depth wire.old wire.new port (copies_on port notices.now) result }
+    ensures { AllOrNone W.line W.depth wire.old wire.new port (copies_on port notices.now) result }
 {
     if !has_room(wire, port, notices) {
         return Err(NetFault::LineFull);
@@ -28,14 +28,14 @@ pub fn send_batch<W: Wire>(wire: &mut W, port: u8, notices: &[Decided]) -> Resul
 
 // Puts a clearance, an empty notice of this stamp, on the line from its port to each port of the mask, or on none.
 pub fn send_clearance<W: Wire>(wire: &mut W, to: Mask, stamp: Stamp) -> Result<(), NetFault>
-    ensures { AllOrNone line depth wire.old wire.new stamp.port (to_each stamp.port to.bits (Empty stamp)) result }
+    ensures { AllOrNone W.line W.depth wire.old wire.new stamp.port (to_each stamp.port to.bits (Empty stamp)) result }
 {
     send_to_each(wire, stamp.port, to, Record::Empty(stamp))
 }
 
 // Puts the record on the line from the port to each port of the mask, or, where one of these lines is full, on none.
 fn send_to_each<W: Wire>(wire: &mut W, from: u8, to: Mask, record: Record) -> Result<(), NetFault>
-    ensures { AllOrNone line depth wire.old wire.new from (to_each from to.bits «record») result }
+    ensures { AllOrNone W.line W.depth wire.old wire.new from (to_each from to.bits «record») result }
 {
     wires::send(wire, from, to, record)
 }
@@ -49,8 +49,8 @@ fn is_copied(notice: Decided, port: u8, to: u8) -> bool
 
 // Puts a copy of the notice on the line to each of its destinations but the port.
 fn put_copies<W: Wire>(wire: &mut W, port: u8, notice: Decided)
-    requires { room depth (line wire.old) port (copies_on port (notice ∷ [])) ≡ true }
-    ensures { Grown (line wire.old) (line wire.new) (copies_on port (notice ∷ [])) }
+    requires { room W.depth (W.line wire.old) port (copies_on port (notice ∷ [])) ≡ true }
+    ensures { Grown (W.line wire.old) (W.line wire.new) (copies_on port (notice ∷ [])) }
 {
     for to in 0..8u8 {
         if is_copied(notice, port, to) {
@@ -62,8 +62,8 @@ fn put_copies<W: Wire>(wire: &mut W, port: u8, notice: Decided)
 
 // Puts the copies of one notice after another.
 fn put_batch<W: Wire>(wire: &mut W, port: u8, notices: &[Decided])
-    requires { room depth (line wire.old) port (copies_on port notices.now) ≡ true }
-    ensures { Grown (line wire.old) (line wire.new) (copies_on port notices.now) }
+    requires { room W.depth (W.line wire.old) port (copies_on port notices.now) ≡ true }
+    ensures { Grown (W.line wire.old) (W.line wire.new) (copies_on port notices.now) }
 {
     for notice in notices {
         put_copies(wire, port, *notice);

@@ -13,7 +13,7 @@ use wires::wire::Wire;
 impl<W: Wire, B: Board> Net<W, B> {
     // Brings on the line from one port to another.
     pub fn bring(&mut self, from: u8, to: u8) -> Result<(), NetFault>
-        ensures kept { MatchResult result (λ _. Kept depth rule (view line shown self.old) (brought from to) (view line shown self.new)) (λ f. Kept depth rule (view line shown self.old) (refused (bring from to) f) (view line shown self.new)) }
+        ensures kept { MatchResult result (λ _. Kept W.depth B.rule (view W.line B.shown self.old) (brought from to) (view W.line B.shown self.new)) (λ f. Kept W.depth B.rule (view W.line B.shown self.old) (refused (bring from to) f) (view W.line B.shown self.new)) }
         ensures same { OnErr result (self.new ≡ self.old) }
     {
         if self.lacks(from) | self.lacks(to) {

@@ -15,7 +15,7 @@ use wires::wire::Wire;
 impl<W: Wire, B: Board> Net<W, B> {
     // The port stamps an empty notice, puts it on the line to every port that it can send to, and answers the pair.
     pub fn clear(&mut self, port: u8, reading: u32) -> Result<Pair, NetFault>
-        ensures kept { MatchResult result (λ p. Kept depth rule (view line shown self.old) (cleared port reading p) (view line shown self.new)) (λ f. Kept depth rule (view line shown self.old) (refused (clear port reading) f) (view line shown self.new)) }
+        ensures kept { MatchResult result (λ p. Kept W.depth B.rule (view W.line B.shown self.old) (cleared port reading p) (view W.line B.shown self.new)) (λ f. Kept W.depth B.rule (view W.line B.shown self.old) (refused (clear port reading) f) (view W.line B.shown self.new)) }
         ensures same { OnErr result (SameNet self.old self.new) }
     {
         if self.lacks(port) {

@@ -34,7 +34,7 @@ impl<W: Wire, B: Board> Net<W, B> {
         cuts: [u16; 4],
         working: &mut [Decided],
     ) -> Result<(usize, usize), NetFault>
-        ensures kept { MatchResult result (λ a. (ds : List Decided) × Kept depth rule (view line shown self.old) (decided (deciding_call port number cuts working.old) ds a.0 a.1) (view line shown self.new) × (working.new ≡ ds ++ drop (length ds) working.old)) (λ f. Kept depth rule (view line shown self.old) (refused (decide (deciding_call port number cuts working.old)) f) (view line shown self.new)) }
+        ensures kept { MatchResult result (λ a. (ds : List Decided) × Kept W.depth B.rule (view W.line B.shown self.old) (decided (deciding_call port number cuts working.old) ds a.0 a.1) (view W.line B.shown self.new) × (working.new ≡ ds ++ drop (length ds) working.old)) (λ f. Kept W.depth B.rule (view W.line B.shown self.old) (refused (decide (deciding_call port number cuts working.old)) f) (view W.line B.shown self.new)) }
         ensures same { OnErr result ((self.new ≡ self.old) × (working.new ≡ working.old)) }
     {
         if self.lacks(port) {

@@ -13,7 +13,7 @@ use wires::wire::Wire;
 impl<W: Wire, B: Board> Net<W, B> {
     // The port takes the oldest arrived record of the line from the source.
     pub fn fetch(&mut self, port: u8, source: u8) -> Result<(), NetFault>
-        ensures kept { MatchResult result (λ _. KeptAfter depth rule (view line shown self.old) (fetched port source) (view line shown self.new)) (λ f. KeptAfter depth rule (view line shown self.old) (refused (fetch port source) f) (view line shown self.new)) }
+        ensures kept { MatchResult result (λ _. KeptAfter W.depth B.rule (view W.line B.shown self.old) (fetched port source) (view W.line B.shown self.new)) (λ f. KeptAfter W.depth B.rule (view W.line B.shown self.old) (refused (fetch port source) f) (view W.line B.shown self.new)) }
         ensures same { OnErr result (self.new ≡ self.old) }
     {
         if self.lacks(port) | self.lacks(source) {

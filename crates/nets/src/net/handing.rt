@@ -73,7 +73,7 @@ impl<W: Wire, B: Board> Net<W, B> {
         action: u8,
         vessel: u16,
     ) -> Result<u16, NetFault>
-        ensures kept { MatchResult result (λ count. Kept depth rule (view line shown self.old) (handed (hand_in_call port dispatcher reading mask home berth action vessel) count) (view line shown self.new)) (λ f. Kept depth rule (view line shown self.old) (refused (hand_in (hand_in_call port dispatcher reading mask home berth action vessel)) f) (view line shown self.new)) }
+        ensures kept { MatchResult result (λ count. Kept W.depth B.rule (view W.line B.shown self.old) (handed (hand_in_call port dispatcher reading mask home berth action vessel) count) (view W.line B.shown self.new)) (λ f. Kept W.depth B.rule (view W.line B.shown self.old) (refused (hand_in (hand_in_call port dispatcher reading mask home berth action vessel)) f) (view W.line B.shown self.new)) }
         ensures same { OnErr result (SameNet self.old self.new) }
     {
         if self.lacks(port) {

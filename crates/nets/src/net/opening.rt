@@ -13,7 +13,7 @@ impl<W: Wire, B: Board> Net<W, B> {
     // A net on this table, over the wire and the board, which it empties and owns from then on.
     pub fn open(reach: Reach, mut wire: W, mut board: B) -> Net<W, B>
         ensures table { result.reach ≡ reach }
-        ensures lives { Lived depth rule [] (view line shown result) }
+        ensures lives { Lived W.depth B.rule [] (view W.line B.shown result) }
     {
         wire.empty();
         board.empty();

@@ -16,7 +16,7 @@ impl<W: Wire, B: Board> Net<W, B> {
     // The lowest waiting notice of the port goes into its book, if nobody holds it; the answer is the notice, and what came
     // of it on the port's board.
     pub fn release(&mut self, port: u8) -> Result<(Decided, Outcome), NetFault>
-        ensures kept { MatchResult result (λ a. Kept depth rule (view line shown self.old) (released port a.0 a.1) (view line shown self.new)) (λ f. Kept depth rule (view line shown self.old) (refused (release port) f) (view line shown self.new)) }
+        ensures kept { MatchResult result (λ a. Kept W.depth B.rule (view W.line B.shown self.old) (released port a.0 a.1) (view W.line B.shown self.new)) (λ f. Kept W.depth B.rule (view W.line B.shown self.old) (refused (release port) f) (view W.line B.shown self.new)) }
         ensures same { OnErr result (self.new ≡ self.old) }
     {
         if self.lacks(port) {

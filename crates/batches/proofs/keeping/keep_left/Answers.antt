@@ -2,7 +2,6 @@ use Rattle.std.proofs.Common.{◌<◌, length, sym, ◌∙◌, arith}
 use Rattle.std.proofs.lemmas.List.Filters.{FiltersInPlace-all, FiltersInPlace-more_no, FiltersInPlace-more_set}
 use Rattle.std.proofs.lemmas.List.{get_or_default}
 use Rattle.std.proofs.lemmas.Bool.{not_from_true, not_from_false}
-use Rattle.model.specs.Batches.{within}
 use Rattle.batches.proofs.keeping.keep_left.Goals as goal
 use Rattle.batches.proofs.keeping.keep_left.Goals.{then-not-is_within, else-not-is_within}
 

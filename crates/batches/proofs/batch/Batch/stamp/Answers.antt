@@ -1,4 +1,4 @@
-use Rattle.std.proofs.Common.{◌≡◌, ◌+◌, ◌<◌, length, get_or, drop, sym, refl, ap, ◌∙◌, subst, arith, length-set}
+use Rattle.std.proofs.Common.{◌+◌, ◌<◌, length, get_or, drop, sym, refl, ap, ◌∙◌, subst, arith, length-set}
 use Rattle.std.proofs.lemmas.List.{drop_all}
 use Rattle.model.specs.Batches.{within, batch}
 use Rattle.batches.proofs.Walks.{no_handed, kept_here, kept_not}
@@ -42,7 +42,7 @@ loop-n-preserved c =
     ]
 
 pub invariant_of-result : goal.invariant_of-result
-invariant_of-result c = (c.loop-n.invariant.1, (omega arith, tt))
+invariant_of-result c = record { places = c.loop-n.invariant.1; within = omega arith }
 
 pub returns : goal.returns
 returns c =
@@ -50,4 +50,4 @@ returns c =
     let cuts = c.args.cuts.now in
     let none = ap (batch cuts) (drop_all c.loop-n.n-index ns c.loop-n-test.false) in
     let done = going_all (subst (Going _ _ _ _ _ _) none c.loop-n.invariant.2) (omega arith) in
-    record { few = omega arith; notices = done.0; count = done.1; floor_after_lem = done.2; fits = done.3 }
+    record { few = omega arith; notices = done.0; count = done.1; last = done.2; fits = done.3 }

@@ -14,7 +14,7 @@ invariant_of-self c =
     let r = c.keep_others-self.result in
     let most : r ≤ length part = omega (arith, c.keep_others-self.ensures.most) in
     let was = sym (kept_front b.vessels part (drop (b.len - 0) b.vessels) b.len r v c.keep_others-self.ensures.kept most) in
-    ((simp (length-append, length-drop) (omega arith), omega arith), (subst (λ l. once l ≡ true) was (once_without v (vessels_of b) b.apart), (subst (λ l. listed 0 l ≡ false) was (unlisted_without v 0 (vessels_of b) b.named), tt)))
+    record { places = (simp (length-append, length-drop) (omega arith), omega arith); apart = subst (λ l. once l ≡ true) was (once_without v (vessels_of b) b.apart); named = subst (λ l. listed 0 l ≡ false) was (unlisted_without v 0 (vessels_of b) b.named) }
 
 pub returns : goal.returns
 returns c =

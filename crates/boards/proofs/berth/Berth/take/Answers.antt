@@ -13,7 +13,7 @@ invariant_of-self c =
     let few : b.len < 4 = omega arith in
     let free = said b v false c.if-lists.ensures in
     let was = sym (pushed b v few) in
-    ((length-set b.vessels b.len v ∙ b.places.0, omega arith), (subst (λ l. once l ≡ true) was (once_push v (vessels_of b) b.apart free), (subst (λ l. listed 0 l ≡ false) was (unlisted_push 0 v (vessels_of b) b.named (λ e. omega (arith, c.requires))), tt)))
+    record { places = (length-set b.vessels b.len v ∙ b.places.0, omega arith); apart = subst (λ l. once l ≡ true) was (once_push v (vessels_of b) b.apart free); named = subst (λ l. listed 0 l ≡ false) was (unlisted_push 0 v (vessels_of b) b.named (λ e. omega (arith, c.requires))) }
 
 pub returns-then-len-eq0 : goal.returns-then-len-eq0
 returns-then-len-eq0 c =

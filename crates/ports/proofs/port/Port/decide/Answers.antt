@@ -27,4 +27,4 @@ invariant_of-self c =
     let x = deciding p c.args.number c.args.cuts.now in
     let none = c.in_ok-batch.ensures.accepted in
     let addressed = addressed_all p.own c.list.result.now (waiting_of p.waiting) (waiting_of c.join.new.waiting) c.join.ensures p.addressed in
-    (p.port, (omega (arith, number_is (port_view p) x none, number_low (port_view p) x none), (p.givens, (c.told-cuts, (p.lasts, (p.sources, (cut_given (port_view p) x none c.told-cuts, (addressed, tt))))))))
+    record { port = p.port; numbers = omega (arith, number_is (port_view p) x none, number_low (port_view p) x none); givens = p.givens; settles = c.told-cuts; lasts = p.lasts; sources = p.sources; behind = cut_given (port_view p) x none c.told-cuts; addressed = addressed }

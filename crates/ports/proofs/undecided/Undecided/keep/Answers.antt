@@ -15,7 +15,7 @@ invariant_of-self c =
     let e = front_kept (left cuts) u.notices k.new.notices u.len k.result k.auto.notices k.ensures.kept k.ensures.few in
     let few = k.ensures.few in
     let short = length-take (u.len - 0) u.notices in
-    (front_long u.notices k.new.notices (u.len - 0) k.auto.notices ∙ u.places, (omega arith, (subst (Rising handed_before) (sym e) (pairs_kept (λ x y. not (handed_before y x)) (λ n. not (within cuts n)) (undecided_of u) u.rises), tt)))
+    record { places = front_long u.notices k.new.notices (u.len - 0) k.auto.notices ∙ u.places; within = omega arith; rises = subst (Rising handed_before) (sym e) (pairs_kept (λ x y. not (handed_before y x)) (λ n. not (within cuts n)) (undecided_of u) u.rises) }
 
 pub returns : goal.returns
 returns c =

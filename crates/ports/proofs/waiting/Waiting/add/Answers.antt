@@ -19,4 +19,4 @@ invariant_of-self c =
     let few : count_from x.stamp.port (waiting_of w) < 8 = omega arith in
     let fits = room w x.stamp.port low few in
     let put = put_from decided_key decided_before x w.len w.notices c.insert.new.places c.insert.result (omega (arith, fits, w.places)) c.insert.ensures in
-    (omega arith, (omega arith, (put.1.rising w.rises, (known_joined x w.len _ w.notices _ put.1 w.known low, (crowds_joined x w.len _ w.notices _ put.1 w.crowds few, tt)))))
+    record { places = omega arith; within = omega arith; rises = put.1.rising w.rises; known = known_joined x w.len _ w.notices _ put.1 w.known low; crowds = crowds_joined x w.len _ w.notices _ put.1 w.crowds few }

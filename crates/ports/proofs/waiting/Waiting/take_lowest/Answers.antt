@@ -15,7 +15,7 @@ pub invariant_of-self : goal.invariant_of-self
 invariant_of-self c =
     let w = c.args.self.now in
     let t = (taken c).2 in
-    (omega arith, (omega arith, (t.rising w.rises, (known_left _ w.len w.notices _ t w.known, (crowds_left _ w.len w.notices _ t w.crowds, tt)))))
+    record { places = omega arith; within = omega arith; rises = t.rising w.rises; known = known_left _ w.len w.notices _ t w.known; crowds = crowds_left _ w.len w.notices _ t w.crowds }
 
 pub returns : goal.returns
 returns c =
