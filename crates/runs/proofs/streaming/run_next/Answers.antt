@@ -1,6 +1,6 @@
 use Rattle.std.proofs.Common.{Ok, refl, ap, ◌∙◌, subst}
 use Rattle.events.specs.Fields.{read_at}
-use Rattle.events.specs.Streams.{EventAnswers}
+use Rattle.streams.specs.Streams.{EventAnswers}
 use Rattle.runs.proofs.streaming.run_next.Goals as goal
 
 pub returns-then-is_err : goal.returns-then-is_err
