@@ -1,6 +1,6 @@
 -- What a total order gives of a list that rises by it. Assumes nothing.
 use Rattle.std.proofs.Common.{◌≡◌, ℕ, zero, suc, ◌+◌, ◌≤◌, Bool, true, false, not, List, [], ◌∷◌, length, refl, ap, ⊎_elim, arith}
-use Rattle.std.specs.List.{insert, AllByRecursion as All}
+use Rattle.std.specs.List.{insert, AllByRecursion}
 use Rattle.std.proofs.lemmas.Bool.{both_ways, cases_Bool, and_parts, and_from, not-true, not_from_false, cond_both}
 use Rattle.ordered.specs.Orders.{Total, all_pass, pairs_pass, Rising, Strict, Fresh, placed, place_of, Place}
 
@@ -38,7 +38,7 @@ module _ {X : Type 0} where
   all_weaker p q w (x ∷ xs) h = let both = and_parts (p x) (all_pass p xs) h in and_from (q x) (all_pass q xs) (w x both.0) (all_weaker p q w xs both.1)
 
   -- pairs that pass still pass with x put in, where x passes with what it is put in front of and what it is put behind
-  pub pairs_placed : (before test : X → X → Bool) (x : X) (xs : List X) → pairs_pass test xs ≡ true → ((y : X) → before x y ≡ true → test x y ≡ true) → ((y z : X) → before x y ≡ true → test y z ≡ true → test x z ≡ true) → All (λ y. before x y ≡ false → test y x ≡ true) xs → pairs_pass test (placed before x xs) ≡ true
+  pub pairs_placed : (before test : X → X → Bool) (x : X) (xs : List X) → pairs_pass test xs ≡ true → ((y : X) → before x y ≡ true → test x y ≡ true) → ((y z : X) → before x y ≡ true → test y z ≡ true → test x z ≡ true) → AllByRecursion (λ y. before x y ≡ false → test y x ≡ true) xs → pairs_pass test (placed before x xs) ≡ true
   pairs_placed before test x [] up front over behind = refl
   pairs_placed before test x (y ∷ ys) up front over behind =
       let both = and_parts (all_pass (test y) ys) (pairs_pass test ys) up in
@@ -46,11 +46,11 @@ module _ {X : Type 0} where
       (λ e. and_from (all_pass (test x) (y ∷ ys)) (pairs_pass test (y ∷ ys)) (and_from (test x y) (all_pass (test x) ys) (front y e) (all_weaker (test y) (test x) (λ z. over y z e) ys both.0)) up)
       (λ e. and_from (all_pass (test y) (placed before x ys)) (pairs_pass test (placed before x ys)) (all_placed before x (test y) ys both.0 (behind.0 e)) (pairs_placed before test x ys both.1 front over behind.1))
 
-  all_of : (P : X → Type 0) → ((x : X) → P x) → (xs : List X) → All P xs
+  all_of : (P : X → Type 0) → ((x : X) → P x) → (xs : List X) → AllByRecursion P xs
   all_of P h [] = tt
   all_of P h (x ∷ xs) = (h x, all_of P h xs)
 
-  all_from : (P Q : X → Type 0) → ((x : X) → P x → Q x) → (xs : List X) → All P xs → All Q xs
+  all_from : (P Q : X → Type 0) → ((x : X) → P x → Q x) → (xs : List X) → AllByRecursion P xs → AllByRecursion Q xs
   all_from P Q w [] h = tt
   all_from P Q w (x ∷ xs) h = (w x h.0, all_from P Q w xs h.1)
 

@@ -1,6 +1,6 @@
 -- How entries compare, what a total order is, a list that rises by it, and where a new entry goes. Assumes nothing.
 use Rattle.std.specs.Prelude.{◌≡◌, ℕ, suc, ◌<◌, ◌≤◌, Bool, true, false, cond, not, ◌&&◌, ◌⊎◌, List, [], ◌∷◌, length, ◌==◌, ◌≢◌, nat_lt, slice_index_or}
-use Rattle.std.specs.List.{AllByRecursion as All}
+use Rattle.std.specs.List.{AllByRecursion}
 
 -- by one number of the entry
 abbrev pub by : {X : Type 0} → (X → ℕ) → X → X → Bool
@@ -41,7 +41,7 @@ Strict before xs = pairs_pass before xs ≡ true
 
 -- no entry has the key of x
 abbrev pub Fresh : {X : Type 0} → (X → List ℕ) → X → List X → Type 0
-Fresh key x xs = All (λ y. key x ≢ key y) xs
+Fresh key x xs = AllByRecursion (λ y. key x ≢ key y) xs
 
 -- x in front of the first entry that it is before, or behind them all
 abbrev pub placed : {X : Type 0} → (X → X → Bool) → X → List X → List X
