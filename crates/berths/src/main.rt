@@ -1,5 +1,7 @@
 // Reads an event stream from standard input and prints a line for each field: its place, its letter, and 0; or X and
 // the number of the refusal that ends the run.
+#![tactic(auto)]
+
 use events::event::Field;
 use events::reader::{LONGEST, Reader};
 use records::reach::Reach;

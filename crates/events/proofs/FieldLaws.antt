@@ -1,13 +1,13 @@
 -- One field: what is written is read back, and what is read was written. Assumes nothing.
-use Rattle.std.proofs.Common.{◌≡◌, ℕ, suc, ◌+◌, ◌-◌, ◌*◌, ◌/◌, ◌%◌, ◌^◌, ◌<◌, ◌≤◌, Bool, true, false, cond, not, ◌||◌, eqb, ltb, ◌⊎◌, List, [], ◌∷◌, ◌++◌, length, get_or, take, drop, is_some, Some, None, Option, sym, refl, ap, ◌∙◌, subst, ⊎_elim, arith}
-use Rattle.std.proofs.lemmas.List.{take_at, take-append-drop, length-take-le, length-append, get_or-take, get_or_past, append_assoc}
+use Rattle.std.proofs.Common.{◌≡◌, ℕ, suc, ◌+◌, ◌*◌, ◌^◌, ◌<◌, ◌≤◌, Bool, true, false, cond, not, ◌||◌, eqb, ltb, List, [], ◌∷◌, ◌++◌, length, take, drop, is_some, Some, None, Option, sym, refl, ap, ◌∙◌, subst, ⊎_elim, arith}
+use Rattle.std.proofs.lemmas.List.{take_at, take-append-drop, length-take-le, length-append, get_or-take, get_or_past}
 use Rattle.std.proofs.lemmas.Bool.{cond-true, cond-false, cases_Bool, eq-eqb, ne_eqb, le-ltb, ltb-false, both_ways, cases_lt, eqb-true, not-false}
 use Rattle.records.specs.declared.fault.ReaderFault.{ReaderFault}
 use Rattle.records.specs.declared.fault.ReaderFault.TheVariants.{LooseBytes, UnknownTag, MisplacedTag, WrongLength, MissingBytes}
 use Rattle.events.specs.declared.event.Event.{Event}
-use Rattle.events.specs.Fields.{Reading, table, event, end, refused, size_of, event_of, table_tag, wrong_for, field_fault, read_value, read_field}
+use Rattle.events.specs.Fields.{table, event, end, refused, size_of, event_of, table_tag, wrong_for, field_fault, read_value, read_field}
 use Rattle.events.specs.Writing.{be16, tag_of, value_of, field_of, event_bytes, table_bytes, Fit}
-use Rattle.events.proofs.Values.{Bytes, from16, digits16, Known, known, Told, told}
+use Rattle.events.proofs.Values.{Bytes, from16, digits16, known, told}
 
 -- ---- what is written is read back
 

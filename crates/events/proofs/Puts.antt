@@ -5,7 +5,7 @@ use Rattle.std.proofs.lemmas.List.{append_assoc, append-nil, length-append, take
 use Rattle.events.specs.declared.event.Event.{Event}
 use Rattle.events.specs.declared.event.Event.TheVariants.{HandIn}
 use Rattle.events.specs.Fields.{table_tag}
-use Rattle.events.specs.Writing.{be16, event_bytes, events_bytes, table_bytes, stream_of}
+use Rattle.events.specs.Writing.{event_bytes, events_bytes, table_bytes, stream_of}
 
 -- what a read past the end would give
 abbrev pub no_event : Event

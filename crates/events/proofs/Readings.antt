@@ -1,10 +1,10 @@
 -- How the definition of reading opens, case by case. Assumes nothing.
-use Rattle.std.proofs.Common.{◌≡◌, ℕ, ◌+◌, ◌-◌, ◌<◌, ◌≤◌, Bool, cond, eqb, ltb, List, [], ◌∷◌, length, get_or, take, drop, None, Option, sym, refl, ap, ◌∙◌, arith}
+use Rattle.std.proofs.Common.{◌≡◌, ℕ, ◌+◌, ◌-◌, ◌<◌, ◌≤◌, eqb, ltb, List, [], ◌∷◌, length, get_or, take, drop, None, Option, sym, refl, ap, ◌∙◌, arith}
 use Rattle.std.proofs.lemmas.Bool.{cond-true, cond-false, lt-ltb, le-ltb, eq-eqb, ne_eqb}
 use Rattle.std.proofs.lemmas.List.{take_rest}
 use Rattle.records.specs.declared.fault.ReaderFault.{ReaderFault}
 use Rattle.records.specs.declared.fault.ReaderFault.TheVariants.{StreamTooLong, LooseBytes}
-use Rattle.events.specs.Fields.{Reading, table, event, end, refused, at16, event_of, table_tag, field_fault, read_value, read_field, read_at, longest}
+use Rattle.events.specs.Fields.{table, event, end, refused, at16, event_of, table_tag, field_fault, read_value, read_field, read_at, longest}
 
 pub too_long : (s : List ℕ) (p : ℕ) → longest < length s → read_at s p ≡ refused StreamTooLong
 too_long s p lt = cond-true (ltb longest (length s)) (refused StreamTooLong) (read_field p (drop p s)) (lt-ltb longest (length s) lt)

@@ -1,8 +1,8 @@
 -- A whole stream: what is written is accepted, and what is accepted was written, by one table and one list of events. Assumes nothing.
-use Rattle.std.proofs.Common.{◌≡◌, ℕ, ◌+◌, ◌-◌, ◌^◌, ◌<◌, ◌≤◌, ltb, ◌⊎◌, List, [], ◌∷◌, ◌++◌, length, get_or, take, drop, sym, refl, ap, ◌∙◌, subst, inl, inr, ⊎_elim, arith}
+use Rattle.std.proofs.Common.{◌≡◌, ℕ, ◌+◌, ◌<◌, ◌≤◌, List, [], ◌∷◌, ◌++◌, length, take, drop, sym, refl, ap, ◌∙◌, subst, inr, ⊎_elim, arith}
 use Rattle.std.proofs.lemmas.List.{take_at, drop_at, take-append-drop, length-take-le, length-drop, length-append, append_assoc, append-nil, get_or-drop, take_all}
-use Rattle.std.proofs.lemmas.Bool.{cond-true, cases_lt, lt-ltb}
-use Rattle.std.specs.List.{AllByRecursion as All}
+use Rattle.std.proofs.lemmas.Bool.{cases_lt}
+use Rattle.std.specs.List.{AllByRecursion}
 use Rattle.records.specs.declared.fault.ReaderFault.TheVariants.{StreamTooLong}
 use Rattle.records.specs.declared.fault.TableFault.TheVariants.{WrongCount}
 use Rattle.events.specs.declared.event.Event.{Event}
@@ -22,7 +22,7 @@ ne_end : (p : ℕ) → 0 < p → read_field p [] ≡ end
 ne_end p lt = field_end p [] refl lt
 
 -- the events behind a front that is not empty are said from there on, up to the end
-pub says_back : (front : List ℕ) (es : List Event) → 0 < length front → All Fit es → length (front ++ events_bytes es) ≤ longest → (r : ℕ) × Says (front ++ events_bytes es) (length front) es r × (read_at (front ++ events_bytes es) r ≡ end)
+pub says_back : (front : List ℕ) (es : List Event) → 0 < length front → AllByRecursion Fit es → length (front ++ events_bytes es) ≤ longest → (r : ℕ) × Says (front ++ events_bytes es) (length front) es r × (read_at (front ++ events_bytes es) r ≡ end)
 says_back front [] some fit short =
     let s = front ++ [] in
     let p = length front in
@@ -39,7 +39,7 @@ says_back front (e ∷ es) some fit short =
     let r = rest.0 in
     (r, more p q r e es here (subst (λ k. Says s k es r) len (subst (λ t. Says t (length (front ++ event_bytes e)) es r) same rest.1)), subst (λ t. read_at t r ≡ end) same rest.2)
 
-pub written_accepted : (masks : List ℕ) (es : List Event) → IsTable masks → All Fit es → length (stream_of masks es) ≤ longest → Accepted (stream_of masks es) masks es
+pub written_accepted : (masks : List ℕ) (es : List Event) → IsTable masks → AllByRecursion Fit es → length (stream_of masks es) ≤ longest → Accepted (stream_of masks es) masks es
 written_accepted masks es ok fit short =
     let few = table_short masks ok in
     let s = stream_of masks es in
@@ -105,14 +105,14 @@ module _ (s : List ℕ) (b : Bytes s) (short : length s ≤ longest) where
   pub end_front : (p : ℕ) → read_at s p ≡ end → take p s ≡ s
   end_front p h = let e = ap length (end_at p (drop p s) (sym (not_long s p short) ∙ h)) in take_all p s (omega (arith, length-drop p s))
 
-  pub says_front : (p r : ℕ) (es : List Event) → p ≤ length s → Says s p es r → (take r s ≡ take p s ++ events_bytes es) × (r ≤ length s) × All Fit es
+  pub says_front : (p r : ℕ) (es : List Event) → p ≤ length s → Says s p es r → (take r s ≡ take p s ++ events_bytes es) × (r ≤ length s) × AllByRecursion Fit es
   says_front p r [] le (none p') = (sym (append-nil (take p s)), le, tt)
   says_front p r (e ∷ es) le (more p' q r' e' es' h rest) =
       let one = event_front p q e le h in
       let others = says_front q r es one.1 rest in
       (others.0 ∙ ap (λ t. t ++ events_bytes es) one.0 ∙ append_assoc (take p s) (event_bytes e) (events_bytes es), others.1, (one.2, others.2))
 
-pub accepted_written : (s masks : List ℕ) (es : List Event) → Bytes s → Accepted s masks es → (s ≡ stream_of masks es) × All Fit es
+pub accepted_written : (s masks : List ℕ) (es : List Event) → Bytes s → Accepted s masks es → (s ≡ stream_of masks es) × AllByRecursion Fit es
 accepted_written s masks es b a =
     let short = read_short s 0 (table masks a.behind) a.first (λ bad. let z : ◌≡◌ {A = ℕ} 0 1 = cc in omega arith) in
     let t = table_front s b short a.behind masks a.first in

@@ -1,5 +1,5 @@
 -- What one call of the reader answers, and where it stands then. Assumes nothing.
-use Rattle.std.specs.Prelude.{◌≡◌, ℕ, List, Some, None, Ok, Err, Option, Result}
+use Rattle.std.specs.Prelude.{◌≡◌, ℕ, Some, None, Ok, Err, Option, Result}
 use Rattle.records.specs.declared.fault.ReaderFault.{ReaderFault}
 use Rattle.events.specs.declared.event.Field.{Field}
 use Rattle.events.specs.declared.event.Field.TheVariants.{Table, Event}

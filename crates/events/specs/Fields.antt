@@ -1,5 +1,5 @@
 -- How a stream is read: from the bytes at a place to the field there and the place behind it, or the refusal. Assumes nothing.
-use Rattle.std.specs.Prelude.{ℕ, ◌+◌, ◌*◌, Bool, true, false, cond, not, ◌||◌, List, [], ◌∷◌, length, take, drop, is_some, Some, None, Option, ◌==◌, nat_lt, slice_index}
+use Rattle.std.specs.Prelude.{ℕ, ◌+◌, ◌*◌, Bool, false, cond, not, ◌||◌, List, [], ◌∷◌, length, take, drop, is_some, Some, None, Option, ◌==◌, nat_lt, slice_index}
 use Rattle.records.specs.declared.fault.ReaderFault.{ReaderFault}
 use Rattle.records.specs.declared.fault.ReaderFault.TheVariants.{StreamTooLong, LooseBytes, UnknownTag, MisplacedTag, WrongLength, MissingBytes}
 use Rattle.events.specs.declared.event.Event.{Event}

@@ -4,7 +4,7 @@ use Rattle.records.specs.declared.fault.OutputFault.{OutputFault}
 use Rattle.records.specs.declared.fault.OutputFault.TheVariants.{StreamTooLong, MemoryTooShort}
 use Rattle.records.specs.declared.fault.ReaderFault.{ReaderFault}
 use Rattle.records.specs.declared.fault.TableFault.{TableFault}
-use Rattle.std.specs.List.{AllByRecursion as All}
+use Rattle.std.specs.List.{AllByRecursion}
 use Rattle.records.specs.Reaching.{Refuses}
 use Rattle.events.specs.declared.event.Event.{Event}
 use Rattle.events.specs.declared.part.Part.{Part}
@@ -83,7 +83,7 @@ pub record RestRefused (stream : List ℕ) (from place : ℕ) (part : Part) : Ty
 pub record ReadWhole (stream masks : List ℕ) (events : List Event) : Type 0 where
   pub accepted : Accepted stream masks events
   pub written : stream ≡ stream_of masks events
-  pub only : (masks' : List ℕ) (events' : List Event) → IsTable masks' → All Fit events' → stream_of masks' events' ≡ stream → (masks' ≡ masks) × (events' ≡ events)
+  pub only : (masks' : List ℕ) (events' : List Event) → IsTable masks' → AllByRecursion Fit events' → stream_of masks' events' ≡ stream → (masks' ≡ masks) × (events' ≡ events)
 
 -- the first fault of a stream: nothing before its place is refused
 abbrev pub FirstFault : List ℕ → ℕ → Part → Type 0

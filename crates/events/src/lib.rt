@@ -1,4 +1,6 @@
 // Event streams: what is handed to the program, and what a port's radio box sends and takes, as fields of bytes.
+#![tactic(auto)]
+
 pub mod event; // the events, one case for each tag
 pub mod part; // where and why a stream ends a run
 pub mod reader; // reads a stream field by field

@@ -4,7 +4,6 @@ ghost use Rattle.events.specs.Fields.{longest};
 ghost use Rattle.events.specs.Streams.{Wrote, NotWritten};
 ghost use Rattle.events.specs.Writing.{event_bytes, table_bytes, stream_of, Fit};
 ghost use Rattle.records.specs.Reaching.{mask_bytes};
-ghost use Rattle.std.specs.List.{AllByRecursion as All};
 ghost use Rattle.events.specs.declared.event.Event.TheVariants.{Decide};
 
 use crate::event::Event;

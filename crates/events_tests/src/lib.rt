@@ -1,4 +1,6 @@
 // Examples of event streams and reach tables: every tag, and both sides of every bound of the reader and the table.
+#![tactic(auto)]
+
 #[cfg(test)]
 mod streams; // where and by which number a stream is refused
 #[cfg(test)]

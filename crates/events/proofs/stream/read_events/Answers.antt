@@ -1,4 +1,4 @@
-use Rattle.std.proofs.Common.{◌≡◌, ℕ, true, cond, List, [], ◌∷◌, ◌++◌, is_ok, Some, Ok, vec_items, sym, refl, ap, ◌∙◌, subst, arith}
+use Rattle.std.proofs.Common.{◌≡◌, cond, [], ◌∷◌, ◌++◌, Ok, vec_items, sym, refl, ap, ◌∙◌, subst, arith}
 use Rattle.events.specs.Fields.{read_at, event}
 use Rattle.events.specs.Streams.{Says, none, EventAnswers}
 use Rattle.events.proofs.StreamLaws.{says_more}

@@ -1,4 +1,4 @@
-use Rattle.std.proofs.Common.{◌≡◌, vec_items, ◌∙◌, subst, arith}
+use Rattle.std.proofs.Common.{vec_items, ◌∙◌, subst, arith}
 use Rattle.records.specs.Reaching.{mask_bytes}
 use Rattle.events.specs.Streams.{FirstTable, SaysRest}
 use Rattle.events.proofs.StreamLaws.{read_whole, accepted_from}
@@ -13,4 +13,4 @@ returns c =
     let behind = c.read_table.new.reader.place in
     let table = subst (λ x. FirstTable x masks behind) c.new-reader.ensures.stream c.in-Ok.ensures.cases in
     let rest = subst (λ x. SaysRest x behind es) (c.read_table.ensures.stream ∙ c.new-reader.ensures.stream) c.in_ok-events.ensures in
-    read_whole s masks es (λ i. omega (arith, c.type-inv.stream i)) (accepted_from s masks es behind table rest)
+    read_whole s masks es (λ i. omega (arith, c.type_inv.stream i)) (accepted_from s masks es behind table rest)

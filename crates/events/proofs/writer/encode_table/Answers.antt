@@ -1,4 +1,4 @@
-use Rattle.std.proofs.Common.{◌≡◌, ◌+◌, length, get_or, take, set, sym, refl, ap, ◌∙◌, arith, length-set}
+use Rattle.std.proofs.Common.{◌≡◌, ◌+◌, length, get_or, take, set, sym, ap, ◌∙◌, arith, length-set}
 use Rattle.records.specs.Reaching.{mask_bytes}
 use Rattle.records.proofs.ReachLaws.{length_bytes, byte_at}
 use Rattle.events.proofs.Puts.{mask_more, table_is}

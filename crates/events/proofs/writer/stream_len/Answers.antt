@@ -1,6 +1,5 @@
-use Rattle.std.proofs.Common.{◌≡◌, ◌+◌, length, take, ap, ◌∙◌, arith}
+use Rattle.std.proofs.Common.{◌+◌, length, ap, ◌∙◌, arith}
 use Rattle.records.specs.Reaching.{mask_bytes}
-use Rattle.events.specs.Writing.{stream_of}
 use Rattle.events.proofs.Puts.{stream_length_more, stream_part, stream_all}
 use Rattle.events.proofs.writer.stream_len.Goals as goal
 

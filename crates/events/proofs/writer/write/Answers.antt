@@ -1,7 +1,7 @@
-use Rattle.std.proofs.Common.{◌≡◌, ◌+◌, ◌≤◌, [], ◌∷◌, ◌++◌, length, get_or, take, drop, sym, refl, ap, ◌∙◌, subst, arith}
+use Rattle.std.proofs.Common.{◌≡◌, ◌+◌, ◌++◌, length, get_or, take, drop, sym, ap, ◌∙◌, subst, arith}
 use Rattle.std.proofs.ByRecursion.{All-push}
-use Rattle.std.proofs.lemmas.List.{take_all, take_more, append-nil}
-use Rattle.std.specs.List.{AllByRecursion as All}
+use Rattle.std.proofs.lemmas.List.{take_all, take_more}
+use Rattle.std.specs.List.{AllByRecursion}
 use Rattle.records.specs.Reaching.{mask_bytes}
 use Rattle.records.proofs.ReachLaws.{sound_bytes}
 use Rattle.events.specs.Writing.{event_bytes, table_bytes, stream_of, Fit}
@@ -56,7 +56,7 @@ loop-event-preserved c =
     let after : last ≡ take c.loop-event.at c.loop-event.out ++ (event_bytes e ++ drop r c.loop-event.out) = c.put-at-in-loop-event.ensures.after ∙ ap (λ w. take c.loop-event.at c.loop-event.out ++ (w ++ drop r c.loop-event.out)) c.encode.ensures.bytes in (
       end ∙ ap (λ k. k + length (event_bytes e)) c.loop-event.invariant.0 ∙ sym (stream_length_more masks es i lt),
       next_put start (stream_of masks (take i es)) (event_bytes e) c.loop-event.out last c.loop-event.at r c.loop-event.invariant.0 c.loop-event.invariant.1 end after ∙ ap (λ w. w ++ drop r start) (sym (stream_more masks es i lt)),
-      subst (All Fit) (sym (take_more es i no_event lt)) (All-push Fit (take i es) e c.loop-event.invariant.2 c.encode.ensures.fit),
+      subst (AllByRecursion Fit) (sym (take_more es i no_event lt)) (All-push Fit (take i es) e c.loop-event.invariant.2 c.encode.ensures.fit),
     )
 
 pub returns : goal.returns
@@ -70,7 +70,7 @@ returns c =
     let len : c.put-at.result ≡ length (table_bytes masks) = omega (arith, c.put-at.ensures.end, c.encode_table.ensures.len) in
     let first = c.put-at.ensures.after ∙ ap (λ w. w ++ drop c.put-at.result c.args.out.now) c.encode_table.ensures.bytes in
     let behind : drop c.loop-event.at c.put-at.new.out ≡ drop c.loop-event.at c.args.out.now = behind_first c.args.out.now (table_bytes masks) c.put-at.new.out c.put-at.result c.loop-event.at len first (omega (arith, table_part masks es)) in
-    let fit : All Fit es = subst (All Fit) (take_all i es c.loop-event-test.false) c.loop-event.invariant.2 in
+    let fit : AllByRecursion Fit es = subst (AllByRecursion Fit) (take_all i es c.loop-event-test.false) c.loop-event.invariant.2 in
     let short = c.in-Some.ensures in
     record {
       wrote = record {

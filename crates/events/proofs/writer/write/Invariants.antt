@@ -1,5 +1,5 @@
 use Rattle.std.proofs.Common.{◌≡◌, ◌++◌, length, take, drop}
-use Rattle.std.specs.List.{AllByRecursion as All}
+use Rattle.std.specs.List.{AllByRecursion}
 use Rattle.records.specs.Reaching.{mask_bytes}
 use Rattle.events.specs.Writing.{stream_of, Fit}
 use Rattle.events.proofs.writer.write.Given as goal
@@ -9,4 +9,4 @@ abbrev pub invariant-loop-event : goal.invariant-loop-event
 invariant-loop-event l =
     (l.at ≡ length (stream_of (mask_bytes l.table.ports l.table.masks) (take l.event-index l.events)))
     × (l.out ≡ stream_of (mask_bytes l.table.ports l.table.masks) (take l.event-index l.events) ++ drop l.at l.initial.out)
-    × All Fit (take l.event-index l.events)
+    × AllByRecursion Fit (take l.event-index l.events)
