@@ -1,5 +1,5 @@
 // Reads a stream field by field.
-ghost use Rattle.std.specs.Prelude.{◌≡◌, ℕ, ◌+◌, ◌≤◌, length, IfOk, Some, OnErr, OnSome};
+ghost use Rattle.std.specs.Prelude.{◌≡◌, ℕ, ◌+◌, ◌<◌, ◌≤◌, length, IfNone, IfOk, IfSome, Some, OnErr, OnSome};
 ghost use Rattle.events.specs.Answers.{Answers};
 ghost use Rattle.events.specs.Fields.{at16, at32, size_of, event_of, field_fault, read_at};
 
@@ -114,6 +114,19 @@ impl<'a> Reader<'a> {
         ensures stream { result.stream.now ≡ stream.now }
     {
         Reader { stream, place: 0 }
+    }
+
+    // A reader that goes on at the place; none where the place is beyond the stream.
+    pub fn at(stream: &'a [u8], place: usize) -> Option<Reader<'a>>
+        ensures beyond { IfNone result (length stream.now < place) }
+        ensures within { OnSome result (place ≤ length stream.now) }
+        ensures place { IfSome result (λ r. r.place ≡ place) }
+        ensures stream { IfSome result (λ r. r.stream.now ≡ stream.now) }
+    {
+        if place > stream.len() {
+            return None;
+        }
+        Some(Reader { stream, place })
     }
 
     // Where the field begins that is read next.

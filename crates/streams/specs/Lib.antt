@@ -1,2 +1,3 @@
+pub mod Numbers
+pub mod Streams
 pub mod Whole
-pub mod Writing

@@ -1,6 +1,9 @@
-// Whole event streams: a table and events, written as bytes and read back.
-pub mod stream; // reads a whole stream
-pub mod writer; // writes a table and events as a stream
+// Whole event streams: the table first, and then the events, one by one or all at once.
+#![tactic(auto)]
 
+pub mod behind; // reads the table, and then event by event
+pub mod part; // where and why a stream ends a run
+pub mod stream; // reads a whole stream
+
+pub use behind::{EventReader, open_stream};
 pub use stream::{Stream, read_stream};
-pub use writer::write;

@@ -1,11 +1,12 @@
 // Reads a whole stream: its table and its events, or the first refusal with its place and the part that it came from.
-ghost use Rattle.streams.specs.Whole.{SaysRest, RestRefused, ReadWhole, FirstFault};
+ghost use Rattle.events.specs.Streams.{SaysRest, ReadWhole};
+ghost use Rattle.streams.specs.Whole.{RestRefused, FirstFault};
 ghost use Rattle.records.specs.Reaching.{mask_bytes};
 ghost use Rattle.std.specs.Prelude.{MatchResult};
 
-use events::behind::{EventReader, open_stream};
+use crate::behind::{EventReader, open_stream};
+use crate::part::{Refusal, StreamFault};
 use events::event::Event;
-use events::part::{Refusal, StreamFault};
 use records::reach::Reach;
 use std::alloc::Global;
 

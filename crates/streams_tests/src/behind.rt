@@ -1,10 +1,10 @@
 // Event by event, behind the table.
-use events::behind::{EventReader, open_stream};
 use events::event::Event;
-use events::part::Part;
 use records::fault::{ReaderFault, TableFault};
 use std::process::Abort;
 use std::test::Fail;
+use streams::behind::{EventReader, open_stream};
+use streams::part::{Part, Refusal};
 
 // The part that refuses the first field.
 fn refusal(stream: &[u8]) -> Option<Part> {
@@ -36,9 +36,11 @@ fn then_events(rt: &impl Abort, mut reader: EventReader) {
     let fetch = Event::Fetch { port: 2, source: 0 };
     assert_eq!(rt; reader.next(), Ok(Some(fetch)));
     assert_eq!(rt; reader.place(), 15);
-    assert_eq!(rt; reader.next(), Err(ReaderFault::LooseBytes));
+    let part = Part::Reader(ReaderFault::LooseBytes);
+    let loose = Refusal { place: 15, part };
+    assert_eq!(rt; reader.next(), Err(loose));
     assert_eq!(rt; reader.place(), 15);
-    assert_eq!(rt; reader.next(), Err(ReaderFault::LooseBytes));
+    assert_eq!(rt; reader.next(), Err(loose));
 }
 
 #[test]

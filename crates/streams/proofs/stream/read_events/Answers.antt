@@ -1,7 +1,8 @@
 use Rattle.std.proofs.Common.{◌≡◌, cond, [], ◌∷◌, ◌++◌, Ok, vec_items, sym, refl, ap, ◌∙◌, subst}
 use Rattle.events.specs.Fields.{read_at, event}
-use Rattle.events.specs.Streams.{Says, none, EventAnswers}
-use Rattle.events.proofs.Sayings.{says_more}
+use Rattle.events.specs.Streams.{Says, none}
+use Rattle.events.proofs.StreamLaws.{says_more}
+use Rattle.streams.specs.Streams.{EventAnswers}
 use Rattle.streams.proofs.stream.read_events.Goals as goal
 
 pub fields-init : goal.fields-init

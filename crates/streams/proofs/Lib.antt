@@ -1,4 +1,0 @@
-pub mod FieldLaws
-pub mod Puts
-pub mod StreamLaws
-pub mod Values
