@@ -7,7 +7,7 @@
 //   vessel, as home/berth vessel; or 16 where nothing has arrived.
 // A refusal by reader or table prints the place, X and its number, and ends it. Other events print nothing.
 use bag_wire::BagWire;
-use events::behind::{EventReader, open_stream};
+use streams::behind::{EventReader, open_stream};
 use events::event::Event;
 use events::reader::LONGEST;
 use radio_box::carrying::carry;
