@@ -13,12 +13,3 @@ returns-then-is_err g c =
       stream = c.next.ensures.stream;
       turn = ((c.place-at.ensures, (c.in-Some.event, q, ap (read_at s) c.place-at.ensures ∙ found.0)), c.reserve.ensures.items, refl);
     }
-
-pub returns-in_err-event : goal.returns-in_err-event
-returns-in_err-event g c = ?
-
-pub returns-in-None : goal.returns-in-None
-returns-in-None g c = ?
-
-pub returns : goal.returns
-returns g c = ?
