@@ -1,7 +1,7 @@
 -- The printed line. Assumes nothing.
 use Rattle.std.specs.Prelude.{ℕ, List, [], ◌∷◌, ◌++◌, decimal}
 use Rattle.events.specs.Letters.{letter_of}
-use Rattle.events.specs.Numbers.{part_number}
+use Rattle.streams.specs.Numbers.{part_number}
 use Rattle.answers.specs.declared.line.Line.{Line}
 use Rattle.answers.specs.declared.line.Line.TheVariants.{Table, Event, Refused}
 use Rattle.answers.specs.Answers.{space, item, result_text}

@@ -1,4 +1,6 @@
 // What a net answers to the events of a stream, and the line that is printed of each.
+#![tactic(auto)]
+
 pub mod answer; // what an event came to
 pub mod line; // the printed line
 mod text; // a text that is put together piece by piece

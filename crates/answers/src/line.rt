@@ -5,8 +5,8 @@ ghost use Rattle.answers.specs.Texts.{text_of, Printed, NoRoom};
 
 use crate::answer::Answered;
 use crate::text::Text;
-use events::part::Refusal;
 use records::fault::OutputFault;
+use streams::part::Refusal;
 
 // No line is longer, in bytes.
 pub const LONGEST_LINE: usize = 191;

@@ -1,10 +1,10 @@
 // The lines of the table, and of a refusal by reader or table, which ends the run.
 use crate::lines::check_line;
 use answers::line::Line;
-use events::part::{Part, Refusal};
 use records::fault::{OutputFault, ReaderFault, TableFault};
 use std::process::Abort;
 use std::test::Fail;
+use streams::part::{Part, Refusal};
 
 fn check_refused(rt: &impl Abort, place: usize, part: Part, text: &[u8]) -> Result<(), Fail> {
     check_line(rt, Line::Refused(Refusal { place, part }), text)

@@ -8,10 +8,10 @@ ghost use Rattle.std.specs.Prelude.{◌≡◌, ℕ, [], MatchResult};
 use crate::stepping::run_event;
 use answers::answer::Answered;
 use boards::board::Board;
-use streams::behind::{EventReader, open_stream};
-use streams::part::{Refusal, StreamFault};
 use nets::net::Net;
 use std::alloc::Global;
+use streams::behind::{EventReader, open_stream};
+use streams::part::{Refusal, StreamFault};
 use wires::wire::Wire;
 
 // What a stream came to: the answers to its events in their order, the net after them, and whether the stream was run to its
