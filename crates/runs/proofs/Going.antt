@@ -1,5 +1,5 @@
 -- How a run goes on, field by field. Assumes nothing.
-use Rattle.std.proofs.Common.{◌≡◌, ℕ, List, [], ◌∷◌, ◌++◌, map, reverse, Result, sym, refl, ap, ◌∙◌, subst}
+use Rattle.std.proofs.Common.{◌≡◌, ℕ, List, [], ◌∷◌, ◌++◌, map, reverse, Result, sym, ap, ◌∙◌, subst}
 use mathlib.Core.List.{reverse-cons}
 use Rattle.std.proofs.lemmas.List.{map-append}
 use Rattle.boards.specs.Rules.{Rule}
@@ -9,7 +9,6 @@ use Rattle.answers.specs.declared.answer.Answered.{Answered}
 use Rattle.model.specs.Histories.{Told, History, Lived, Step, handed, decided, cleared, brought, fetched, released, refused}
 use Rattle.model.specs.Views.{View}
 use Rattle.model.proofs.Sound.{law}
-use Rattle.runs.specs.Asked.{Ran}
 use Rattle.runs.proofs.Running.{keeps_after}
 use Rattle.runs.specs.Runs.{Reads, none, more, asked, told, Tells, Went, Turned, Ends, RanEvents}
 

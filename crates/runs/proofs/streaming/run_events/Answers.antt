@@ -1,4 +1,4 @@
-use Rattle.std.proofs.Common.{◌≡◌, ℕ, Bool, List, Ok, Err, vec_items, sym, refl, ap, ◌∙◌, subst, arith}
+use Rattle.std.proofs.Common.{ℕ, Bool, List, Ok, Err, vec_items, sym, refl, ap, ◌∙◌, subst, arith}
 use Rattle.nets.specs.Views.{view}
 use Rattle.runs.specs.Runs.{Ends, TurnAnswers, Turned}
 use Rattle.runs.proofs.Going.{went_none, went_on, table_on, ended}

@@ -1,4 +1,4 @@
-use Rattle.std.proofs.Common.{◌≡◌, ℕ, List, vec_items, ap, ◌∙◌, subst}
+use Rattle.std.proofs.Common.{ℕ, List, vec_items, ap, ◌∙◌, subst}
 use Rattle.nets.specs.Views.{table_of, view}
 use Rattle.runs.specs.Runs.{RanEvents}
 use Rattle.runs.proofs.streaming.run_stream.Goals as goal
