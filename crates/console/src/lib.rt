@@ -2,13 +2,13 @@
 #![tactic(auto)]
 
 use boards::board::Board;
-use streams::part::StreamFault;
 use events::reader::LONGEST;
 use pages::page::{refusal_page, run_page};
 use runs::streaming::run_stream;
 use std::alloc::AllocError;
 use std::io;
 use std::io::{Read, Write};
+use streams::part::StreamFault;
 use wires::wire::Wire;
 
 // All of standard input, but no more than one byte beyond the longest stream: that is enough to know that it is too long.

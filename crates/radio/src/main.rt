@@ -9,7 +9,6 @@
 #![tactic(auto)]
 
 use bag_wire::BagWire;
-use streams::behind::{EventReader, open_stream};
 use events::event::Event;
 use events::reader::LONGEST;
 use radio_box::carrying::carry;
@@ -19,6 +18,7 @@ use records::notice::Record;
 use records::reach::Reach;
 use std::io;
 use std::io::Read;
+use streams::behind::{EventReader, open_stream};
 use wires::wire::Wire;
 
 // Prints what a fetch at the place took.
