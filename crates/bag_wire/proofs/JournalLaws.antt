@@ -1,5 +1,5 @@
 -- What the lines of a journal are after a push, a removal and a marking. Assumes nothing.
-use Rattle.std.proofs.Common.{◌≡◌, ℕ, suc, ◌+◌, ◌<◌, ◌≤◌, Bool, true, false, cond, ◌&&◌, eqb, List, [], ◌∷◌, ◌++◌, map, length, get_or, take, drop, Some, None, filter, Option, sym, refl, ap, ◌∙◌, subst, ⊎_elim, arith}
+use Rattle.std.proofs.Common.{◌≡◌, ℕ, suc, ◌+◌, ◌<◌, ◌≤◌, Bool, true, false, cond, eqb, List, [], ◌∷◌, ◌++◌, map, length, get_or, take, drop, Some, None, filter, Option, sym, refl, ap, ◌∙◌, ⊎_elim, arith}
 use Rattle.std.specs.List.{prefix_len}
 use Rattle.std.proofs.lemmas.List.{append-nil, length-map, length-append, length-take-le, map-append, length_push, take-append-drop, drop_more, get_or-take}
 use Rattle.std.proofs.lemmas.List.Elements.{filter-append}
@@ -9,7 +9,7 @@ use Rattle.std.proofs.lemmas.Bool.{cases_Bool, cond-true, cond-false, cond_both,
 use Rattle.records.specs.declared.notice.Record.{Record}
 use Rattle.records.specs.declared.notice.Record.TheVariants.{Notice}
 use Rattle.records.specs.declared.notice.Action.TheVariants.{Take}
-use Rattle.wires.specs.Lines.{Line, depth_of, SameBut, Put, Looked, Taken, Brought}
+use Rattle.wires.specs.Lines.{depth_of, Put, Looked, Taken, Brought}
 use Rattle.wires.proofs.LineLaws.{by_line}
 use Rattle.bag_wire.specs.declared.entry.Entry.{Entry}
 use Rattle.bag_wire.specs.Journals.{on, kept, line_of, lines_in, Sound, shown, marked, First}

@@ -1,6 +1,6 @@
 -- A sound journal has at most 448 entries: 56 lines of 8. Assumes nothing.
 use Rattle.std.proofs.Common.{◌≡◌, ℕ, zero, suc, ◌+◌, ◌*◌, ◌/◌, ◌%◌, ◌<◌, ◌≤◌, Bool, true, false, cond, eqb, leb, List, [], ◌∷◌, length, get_or, sum_by, count_by, refl, ap, ⊎_elim, arith}
-use Rattle.std.specs.List.{range_with_len, AllByRecursion as All}
+use Rattle.std.specs.List.{range_with_len, AllByRecursion}
 use Rattle.std.proofs.ByRecursion.{All-from_get_or}
 use Rattle.std.proofs.lemmas.List.Sums.{sum_by-cons, length-filter, get_or-le-sum_by}
 use Rattle.std.proofs.lemmas.Bool.{cases_Bool, cond-true, cond-false, eqb-true, lt-leb, le-leb}
@@ -8,7 +8,7 @@ use Rattle.std.proofs.lemmas.Bool.Decides.{nat_tests}
 use Rattle.wires.specs.Lines.{is_line, depth_of}
 use Rattle.wires.proofs.LineLaws.{line_ports}
 use Rattle.bag_wire.specs.declared.entry.Entry.{Entry}
-use Rattle.bag_wire.specs.Journals.{on, kept, Sound}
+use Rattle.bag_wire.specs.Journals.{on, Sound}
 use Rattle.bag_wire.proofs.JournalLaws.{blank, on_from}
 
 abbrev place : Entry → ℕ
@@ -33,7 +33,7 @@ depth_line p q h =
     (λ (f : is_line p q ≡ false). absurd (omega (arith, cond-false {A = ℕ} (is_line p q) 8 0 f)))
     (cases_Bool (is_line p q))
 
-valid : (es : List Entry) → Sound es → All Valid es
+valid : (es : List Entry) → Sound es → AllByRecursion Valid es
 valid es s = All-from_get_or Valid es blank (λ i h.
     let e = get_or es i blank in
     let one = cond-true {A = ℕ} (on e.from e.to e) 1 0 (on_from e e.from e.to refl refl) in
@@ -58,12 +58,12 @@ one_le n e v =
     (λ (f : at n e ≡ false). omega (arith, cond-false {A = ℕ} (at n e) 1 0 f))
     (cases_Bool (at n e))
 
-class_le : (n : ℕ) (es : List Entry) → All Valid es → count_by (at n) es ≤ count_by (on (n / 8) (n % 8)) es
+class_le : (n : ℕ) (es : List Entry) → AllByRecursion Valid es → count_by (at n) es ≤ count_by (on (n / 8) (n % 8)) es
 class_le n [] v = omega arith
 class_le n (e ∷ es) v =
     omega (arith, sum_by-cons (λ x. cond (at n x) 1 0) e es, sum_by-cons (λ x. cond (on (n / 8) (n % 8) x) 1 0) e es, one_le n e v.0, class_le n es v.1)
 
-none_past : (es : List Entry) → All Valid es → count_by (past 64) es ≡ 0
+none_past : (es : List Entry) → AllByRecursion Valid es → count_by (past 64) es ≡ 0
 none_past [] v = refl
 none_past (e ∷ es) v =
     omega (arith, sum_by-cons (λ x. cond (past 64 x) 1 0) e es, cond-false {A = ℕ} (past 64 e) 1 0 (lt-leb 64 (place e) (omega (arith, v.0.0, v.0.1))), none_past es v.1)
@@ -73,7 +73,7 @@ all_past [] = refl
 all_past (e ∷ es) =
     omega (arith, sum_by-cons (λ x. cond (past 0 x) 1 0) e es, cond-true {A = ℕ} (past 0 e) 1 0 (le-leb 0 (place e) (omega arith)), all_past es)
 
-bound : (es : List Entry) → Sound es → All Valid es → (m n : ℕ) → n + m ≡ 64 → count_by (past n) es ≤ sum_by depth_at (range_with_len n m)
+bound : (es : List Entry) → Sound es → AllByRecursion Valid es → (m n : ℕ) → n + m ≡ 64 → count_by (past n) es ≤ sum_by depth_at (range_with_len n m)
 bound es s v zero n e =
     let n64 : n ≡ 64 = omega arith in
     omega (arith, ap (λ k. count_by (past k) es) n64, none_past es v)

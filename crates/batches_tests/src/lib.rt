@@ -1,4 +1,6 @@
 // Examples of stamping, of what a batch takes and leaves, and of counting.
+#![tactic(auto)]
+
 #[cfg(test)]
 mod tests {
     use batches::batch::Batch;

@@ -6,7 +6,7 @@ use Rattle.std.proofs.lemmas.Bool.{cases_Bool, cond-true, cond-false, cond_both}
 use Rattle.records.specs.declared.notice.Action.{Action}
 use Rattle.boards.specs.declared.outcome.Outcome.{Outcome}
 use Rattle.boards.specs.Rules.{Vessels, Rule}
-use Rattle.boards.specs.Shown.{Lists, is_berth, turned, Applied, Emptied}
+use Rattle.boards.specs.Shown.{Lists, is_berth, turned, Applied, Emptied, NoneOutside}
 use Rattle.boards.specs.Places.{place_of, shown_by}
 use Rattle.boards.specs.ShownLaws.{berth_bounds, in_range_lem, turned_in_range, at_place, not_place}
 
@@ -32,6 +32,10 @@ module _ {X : Type 0} (means : X → Vessels) where
       at [] i = none
       at (y ∷ ys) zero = each y
       at (y ∷ ys) (suc i) = at ys i
+
+  -- where there is no berth, nothing is shown
+  pub none_outside : (xs : List X) → NoneOutside (shown_by means xs)
+  none_outside xs p q k off = cond-false (is_berth p q k) (slice_index_or (map means xs) (p * 128 + q * 16 + k) []) [] off
 
   -- an array whose every element means the empty list shows none
   pub all_empty : (xs : List X) → ((i : ℕ) → i < 1024 → slice_index_or (map means xs) i [] ≡ []) → Emptied (shown_by means xs)

@@ -1,12 +1,11 @@
 // The first-come board: a berth has one vessel or none, and nobody waits.
-ghost use Rattle.std.specs.Prelude.{◌≡◌, ◌<◌};
+ghost use Rattle.std.specs.Prelude.{◌≡◌, ◌<◌, refl};
 ghost use Rattle.boards.specs.Kinds.{first_come, at_most};
 ghost use Rattle.boards.specs.Places.{alone, shown_by};
 ghost use Rattle.boards.specs.Shown.{Applied, Emptied, Proper};
 ghost use Rattle.boards.specs.KindLaws.{first_come_leaves, first_come_first, first_come_once, first_come_clash, first_come_held, proper_none, proper_alone};
 ghost use Rattle.boards.specs.Places;
-ghost use Rattle.boards.specs.PlaceLaws.{shown_each};
-ghost use Rattle.std.proofs.Common.{rules};
+ghost use Rattle.boards.specs.PlaceLaws.{none_outside, shown_each};
 
 use crate::board::Board;
 use crate::outcome::Outcome;
@@ -79,7 +78,7 @@ impl Board for FirstCome {
 
     ghost holds = { at_most 1 };
 
-    ghost alone = { Prim.search rules };
+    ghost alone = { λ v some. (refl, refl) };
 
     ghost leaves = { first_come_leaves };
 
@@ -93,7 +92,7 @@ impl Board for FirstCome {
 
     ghost proper = { λ b p q k. shown_each Places.alone (Proper (at_most 1)) (proper_none 1) proper_alone b.alongside p q k };
 
-    ghost outside = { Prim.search rules };
+    ghost outside = { λ b. none_outside Places.alone b.alongside };
 
     fn apply(&mut self, watching: u8, home: u8, berth: u8, action: Action, vessel: u16) -> Outcome {
         self.turn_at(Spot::new(watching, home, berth), action, vessel)

@@ -3,11 +3,10 @@ ghost use Rattle.boards.specs.Berths.{vessels_of};
 ghost use Rattle.boards.specs.Kinds.{queue, at_most};
 ghost use Rattle.boards.specs.Places.{shown_by};
 ghost use Rattle.boards.specs.Shown.{Applied, Emptied, Proper};
-ghost use Rattle.std.specs.Prelude.{◌≡◌};
+ghost use Rattle.std.specs.Prelude.{◌≡◌, refl};
 ghost use Rattle.boards.specs.KindLaws.{queue_leaves, queue_first, queue_once, queue_clash, queue_held, proper_none};
 ghost use Rattle.boards.specs.BerthLaws.{proper_berth};
-ghost use Rattle.boards.specs.PlaceLaws.{shown_each};
-ghost use Rattle.std.proofs.Common.{rules};
+ghost use Rattle.boards.specs.PlaceLaws.{none_outside, shown_each};
 
 use crate::berth::Berth;
 use crate::board::Board;
@@ -56,7 +55,7 @@ impl Board for Queue {
 
     ghost holds = { at_most 4 };
 
-    ghost alone = { Prim.search rules };
+    ghost alone = { λ v some. (refl, refl) };
 
     ghost leaves = { queue_leaves };
 
@@ -70,7 +69,7 @@ impl Board for Queue {
 
     ghost proper = { λ b p q k. shown_each vessels_of (Proper (at_most 4)) (proper_none 4) proper_berth b.berths p q k };
 
-    ghost outside = { Prim.search rules };
+    ghost outside = { λ b. none_outside vessels_of b.berths };
 
     fn apply(&mut self, watching: u8, home: u8, berth: u8, action: Action, vessel: u16) -> Outcome {
         self.turn_at(Spot::new(watching, home, berth), action, vessel)

@@ -1,6 +1,8 @@
 // From standard input to standard output: a stream is read, run on a net over any wire and board, and its lines printed.
+#![tactic(auto)]
+
 use boards::board::Board;
-use events::part::StreamFault;
+use streams::part::StreamFault;
 use events::reader::LONGEST;
 use pages::page::{refusal_page, run_page};
 use runs::streaming::run_stream;

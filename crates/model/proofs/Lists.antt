@@ -2,7 +2,7 @@
 use Rattle.std.proofs.Common.{◌≡◌, ℕ, ◌<◌, ◌≤◌, Bool, true, false, cond, not, ◌&&◌, ltb, leb, ◌⊎◌, List, [], ◌∷◌, ◌++◌, map, length, take, filter, sym, refl, ap, ◌∙◌, subst, inl, inr, append-nil, arith}
 use mathlib.Core.List.Memᴰ
 use mathlib.Core.List.{Memᴰ}
-use Rattle.std.specs.List.{AllByRecursion as All}
+use Rattle.std.specs.List.{AllByRecursion}
 use Rattle.std.proofs.lemmas.List.{take_at}
 use Rattle.std.proofs.ByRecursion.{all_kept_by, kept_by_passes, All-weaker, All-push}
 use Rattle.std.proofs.lemmas.Bool.{cond_both, cond-true, cond-false, ltb-true, ltb-false, leb-false, le-ltb, lt-ltb, lt-leb}
@@ -20,12 +20,12 @@ cond_ap f false x y = refl
 
 -- MEMBERS
 
-pub all_mem : {X : Type 0} (P : X → Type 0) {x : X} (xs : List X) → All P xs → In x xs → P x
+pub all_mem : {X : Type 0} (P : X → Type 0) {x : X} (xs : List X) → AllByRecursion P xs → In x xs → P x
 all_mem P {x} [] h m = elim m [ ]
 all_mem P {x} (y ∷ ys) h (Memᴰ.head e) = subst P (sym e) h.0
 all_mem P (y ∷ ys) h (Memᴰ.tail m) = all_mem P ys h.1 m
 
-pub all_from : {X : Type 0} (P : X → Type 0) (xs : List X) → ((x : X) → In x xs → P x) → All P xs
+pub all_from : {X : Type 0} (P : X → Type 0) (xs : List X) → ((x : X) → In x xs → P x) → AllByRecursion P xs
 all_from P [] h = tt
 all_from P (x ∷ xs) h = (h x (Memᴰ.head refl), all_from P xs (λ y d. h y (Memᴰ.tail d)))
 
@@ -106,7 +106,7 @@ kept_map f t (x ∷ xs) = step (t (f x)) (kept_map f t xs)
 module _ {X : Type 0} (key : X → ℕ) where
   abbrev pub Sorted : List X → Type 0
   Sorted [] = Unit {0}
-  Sorted (x ∷ xs) = All (λ y. key x < key y) xs × Sorted xs
+  Sorted (x ∷ xs) = AllByRecursion (λ y. key x < key y) xs × Sorted xs
 
   -- x among xs, by the number
   abbrev pub insert : X → List X → List X
@@ -171,9 +171,9 @@ module _ {X : Type 0} (key : X → ℕ) where
   mem_inserted m [] = Memᴰ.head refl
   mem_inserted m (y ∷ ys) = cond_both (ltb (key m) (key y)) (m ∷ y ∷ ys) (y ∷ insert m ys) (λ l. In m l) (λ _. Memᴰ.head refl) (λ _. Memᴰ.tail (mem_inserted m ys))
 
-  pub all_insert : (P : X → Type 0) (m : X) (xs : List X) → P m → All P xs → All P (insert m xs)
+  pub all_insert : (P : X → Type 0) (m : X) (xs : List X) → P m → AllByRecursion P xs → AllByRecursion P (insert m xs)
   all_insert P m [] p h = (p, tt)
-  all_insert P m (y ∷ ys) p h = cond_both (ltb (key m) (key y)) (m ∷ y ∷ ys) (y ∷ insert m ys) (All P) (λ _. (p, h)) (λ _. (h.0, all_insert P m ys p h.1))
+  all_insert P m (y ∷ ys) p h = cond_both (ltb (key m) (key y)) (m ∷ y ∷ ys) (y ∷ insert m ys) (AllByRecursion P) (λ _. (p, h)) (λ _. (h.0, all_insert P m ys p h.1))
 
   pub sorted_insert : (m : X) (xs : List X) → Sorted xs → ((y : X) → In y xs → key y ≡ key m → ⊥) → Sorted (insert m xs)
   sorted_insert m [] h n = (tt, tt)
@@ -181,7 +181,7 @@ module _ {X : Type 0} (key : X → ℕ) where
       (λ e. let k = ltb-true (key m) (key y) e in ((k, All-weaker (λ z. key y < key z) (λ z. key m < key z) (λ z a. omega (arith, a, k)) ys h.0), h))
       (λ e. let k = ltb-false (key m) (key y) e in let a = n y (Memᴰ.head refl) in (all_insert (λ z. key y < key z) m ys (omega (arith, k, a)) h.0, sorted_insert m ys h.1 (λ z d. n z (Memᴰ.tail d))))
 
-  pub insert_front : (m : X) (xs : List X) → All (λ y. key m < key y) xs → insert m xs ≡ m ∷ xs
+  pub insert_front : (m : X) (xs : List X) → AllByRecursion (λ y. key m < key y) xs → insert m xs ≡ m ∷ xs
   insert_front m [] h = refl
   insert_front m (y ∷ ys) h = cond-true (ltb (key m) (key y)) (m ∷ y ∷ ys) (y ∷ insert m ys) (lt-ltb (key m) (key y) h.0)
 

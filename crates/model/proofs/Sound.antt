@@ -2,7 +2,7 @@
 use Rattle.std.proofs.Common.{◌≡◌, ℕ, ◌<◌, Bool, true, cond, not, ◌&&◌, eqb, ltb, leb, ◌⊎◌, List, [], ◌∷◌, ◌++◌, length, Some, None, fold, filter, Option, sym, refl, ap, ◌∙◌, subst, inl, inr, append_assoc, arith}
 use mathlib.Core.List.Memᴰ
 use Rattle.ordered.specs.Orders.{all_pass, Strict}
-use Rattle.std.specs.List.{AllByRecursion as All}
+use Rattle.std.specs.List.{AllByRecursion}
 use Rattle.std.proofs.lemmas.List.Elements.{filter-append}
 use Rattle.std.proofs.lemmas.Bool.{cases_Bool, and_from, cond-true, lt-ltb, le-ltb}
 use Rattle.records.specs.Keys.{decided_before}
@@ -45,7 +45,7 @@ strict : (xs : List Decided) → Sorted key xs → ((x : Decided) → In x xs �
 strict [] so k = refl
 strict (x ∷ xs) so k = and_from _ _ (passing xs so.0 (λ y d. k y (Memᴰ.tail d))) (strict xs so.1 (λ y d. k y (Memᴰ.tail d)))
   where
-    passing : (ys : List Decided) → All (λ y. key x < key y) ys → ((y : Decided) → In y ys → Good y) → all_pass (decided_before x) ys ≡ true
+    passing : (ys : List Decided) → AllByRecursion (λ y. key x < key y) ys → ((y : Decided) → In y ys → Good y) → all_pass (decided_before x) ys ≡ true
     passing [] a g = refl
     passing (y ∷ ys) a g = and_from _ _ (before_key x y (k x (Memᴰ.head refl)) (g y (Memᴰ.head refl)) ∙ lt-ltb (key x) (key y) a.0) (passing ys a.1 (λ z d. g z (Memᴰ.tail d)))
 

@@ -1,5 +1,5 @@
 -- When a clear is refused, and when not. Assumes nothing.
-use Rattle.std.proofs.Common.{◌≡◌, ℕ, Bool, true, false, not, get_or, Some, None, sym, refl, ap, ◌∙◌}
+use Rattle.std.proofs.Common.{◌≡◌, ℕ, true, false, not, get_or, Some, None, sym, ap, ◌∙◌}
 use Rattle.records.specs.declared.fault.NetFault.TheVariants.{NoSuchPort, StepUsedUp, LineFull}
 use Rattle.model.specs.Refusals.{clear_fault, clearance_on, clearance_stamp, room}
 use Rattle.model.specs.Stamping.{step_fits}

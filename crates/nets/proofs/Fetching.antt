@@ -1,5 +1,5 @@
 -- When a fetch is refused, and when not. Assumes nothing.
-use Rattle.std.proofs.Common.{◌≡◌, ℕ, ◌<◌, ◌≤◌, Bool, true, false, cond, not, ◌&&◌, ◌||◌, eqb, ltb, leb, List, [], ◌∷◌, Some, None, Ok, Err, Option, Result, sym, refl, ap, ◌∙◌, subst, arith}
+use Rattle.std.proofs.Common.{◌≡◌, ℕ, ◌<◌, Bool, true, false, cond, not, ◌&&◌, ◌||◌, eqb, ltb, leb, List, ◌∷◌, Some, None, Ok, Err, Option, Result, sym, refl, ap, ◌∙◌, subst, arith}
 use mathlib.Core.List.Memᴰ
 use Rattle.std.proofs.lemmas.Bool.{eq-eqb, ne_eqb, le-ltb, cond-true, cond-false}
 use Rattle.records.specs.declared.fault.NetFault.{NetFault}
@@ -12,9 +12,9 @@ use Rattle.wires.specs.Lines.{Line, Lines, LookAnswers, TakeAnswers, Taken}
 use Rattle.model.specs.Batches.{goes_to, count_from}
 use Rattle.model.specs.Histories.{History, Lived}
 use Rattle.model.specs.Law.{In}
-use Rattle.model.specs.Refusals.{oldest, oldest_of, is_none, is_notice, fetch_fault, ◌when◌else◌}
+use Rattle.model.specs.Refusals.{oldest, oldest_of, is_none, is_notice, fetch_fault}
 use Rattle.model.specs.Steps.{after_fetch}
-use Rattle.model.specs.Views.{Table, View, outside, sends}
+use Rattle.model.specs.Views.{View, outside, sends}
 use Rattle.model.proofs.Sound.{whole}
 use Rattle.ports.specs.declared.port.Port.{Port}
 use Rattle.ports.specs.Ports.{port_view, misfits, admit_fault, Admits, Became}

@@ -9,7 +9,7 @@ use Rattle.wires.specs.Lines.{Lines}
 use Rattle.boards.specs.Rules.{Rule, Vessels}
 use Rattle.model.specs.Calls.{HandIn, hand_in, action_of}
 use Rattle.model.specs.Histories.{handed, refused}
-use Rattle.model.specs.Refusals.{hand_in_fault, in_reach, ◌when◌else◌}
+use Rattle.model.specs.Refusals.{hand_in_fault, in_reach}
 use Rattle.model.specs.Steps.{after_hand_in}
 use Rattle.model.specs.Views.{Table, View, outside}
 use Rattle.ports.specs.declared.port.Port.{Port}

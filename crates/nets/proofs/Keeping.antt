@@ -1,5 +1,5 @@
 -- How a call's promise follows from what it did, and the tests of a table. Assumes nothing.
-use Rattle.std.proofs.Common.{◌≡◌, ℕ, ◌<◌, Bool, true, false, cond, ◌||◌, ltb, [], Some, Option, sym, refl, ap, ◌∙◌, arith}
+use Rattle.std.proofs.Common.{◌≡◌, ℕ, ◌<◌, Bool, true, false, ◌||◌, ltb, Some, Option, sym, refl, ap, ◌∙◌, arith}
 use Rattle.std.proofs.lemmas.Bool.{cond-true, cond-false, ltb-true, not-false, or_parts}
 use Rattle.records.specs.declared.reach.Reach.{Reach}
 use Rattle.records.specs.declared.fault.NetFault.{NetFault}

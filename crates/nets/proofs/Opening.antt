@@ -1,9 +1,9 @@
 -- A net that was just opened. Assumes nothing.
-use Rattle.std.proofs.Common.{◌≡◌, ℕ, zero, suc, ◌<◌, List, [], ◌∷◌, map, length, get_or, replicate, sym, refl, ap, ◌∙◌, ⊎_elim, arith}
-use Rattle.std.proofs.lemmas.List.{get_or-replicate, get_or_past, length-replicate}
+use Rattle.std.proofs.Common.{◌≡◌, ℕ, [], ◌∷◌, map, get_or, replicate, ap, ◌∙◌, ⊎_elim}
+use Rattle.std.proofs.lemmas.List.{get_or-replicate, get_or_past}
 use Rattle.std.proofs.lemmas.Bool.{cases_lt}
 use Rattle.records.specs.declared.reach.Reach.{Reach}
-use Rattle.model.specs.Views.{PortView, Reaches, fresh}
+use Rattle.model.specs.Views.{Reaches, fresh}
 use Rattle.ports.specs.declared.port.Port.{Port}
 use Rattle.ports.specs.Ports.{port_view}
 use Rattle.nets.specs.Views.{table_of, ports_of}

@@ -1,5 +1,5 @@
 -- When a release is refused, and when not. Assumes nothing.
-use Rattle.std.proofs.Common.{◌≡◌, ℕ, ◌<◌, ◌≤◌, Bool, true, false, cond, ◌&&◌, eqb, ltb, List, [], ◌∷◌, length, Some, None, Option, sym, refl, ap, ◌∙◌, subst, arith}
+use Rattle.std.proofs.Common.{◌≡◌, ℕ, ◌<◌, ◌≤◌, false, ◌&&◌, eqb, ltb, List, [], ◌∷◌, length, Some, None, Option, sym, ap, ◌∙◌, subst, arith}
 use Rattle.std.proofs.lemmas.Bool.{eq-eqb, ne_eqb, lt-ltb, le-ltb}
 use Rattle.records.specs.Reaching.{sends}
 use Rattle.records.specs.declared.fault.NetFault.TheVariants.{NoSuchPort, NothingWaits, Held}
@@ -7,9 +7,9 @@ use Rattle.records.specs.declared.notice.Decided.{Decided}
 use Rattle.records.specs.declared.reach.Reach.{Reach}
 use Rattle.model.specs.Holding.{holds, holders}
 use Rattle.model.specs.Lists.{mask_of, rest}
-use Rattle.model.specs.Refusals.{held_by, release_fault, ◌when◌else◌}
+use Rattle.model.specs.Refusals.{held_by, release_fault}
 use Rattle.model.specs.Steps.{after_release}
-use Rattle.model.specs.Views.{Table, PortView, View, outside}
+use Rattle.model.specs.Views.{PortView, View, outside}
 use Rattle.ports.specs.declared.port.Port.{Port}
 use Rattle.ports.specs.Held.{Lowest}
 use Rattle.ports.specs.Ports.{port_view, holders_of, Became, Releases}

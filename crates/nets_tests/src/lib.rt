@@ -1,4 +1,6 @@
 // Runs of a net over both wires and both boards.
+#![tactic(auto)]
+
 #[cfg(test)]
 mod refusals; // each call's own refusals, where a run reaches them
 #[cfg(test)]

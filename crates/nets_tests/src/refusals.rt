@@ -1,9 +1,9 @@
 // Each call's own refusals, where a run reaches them.
+use crate::runs::NOTHING;
 use bag_wire::BagWire;
 use boards::first_come::FirstCome;
 use nets::net::Net;
 use records::fault::NetFault;
-use records::notice::Decided;
 use records::reach::Reach;
 use records::stamp::Pair;
 use std::test::Fail;
@@ -101,7 +101,7 @@ fn what_is_handed_in(rt: HostRuntime) -> Result<(), Fail> {
 #[test]
 fn what_is_decided(rt: HostRuntime) -> Result<(), Fail> {
     let mut net = net()?;
-    let mut working = [Decided::SPARE; 17];
+    let mut working = [NOTHING; 17];
     assert_eq!(rt; net.hand_in(0, 1, 50, 7, 0, 0, 1, 5), Ok(1));
     assert_eq!(rt; net.hand_in(0, 1, 40, 6, 0, 1, 1, 6), Ok(2));
     assert_eq!(rt;

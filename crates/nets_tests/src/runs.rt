@@ -7,13 +7,31 @@ use boards::queue::Queue;
 use nets::net::Net;
 use records::fault::NetFault;
 use records::mask::Mask;
-use records::notice::Decided;
+use records::notice::{Action, Decided, Notice};
 use records::reach::Reach;
-use records::stamp::Pair;
+use records::stamp::{Pair, Stamp};
 use row_wire::RowWire;
 use std::process::Abort;
 use std::test::Fail;
 use wires::wire::Wire;
+
+// What a place of the working list holds before a decide.
+pub const NOTHING: Decided = Decided {
+    notice: Notice {
+        source: 0,
+        dispatcher: 0,
+        count: 0,
+        to: Mask { bits: 0 },
+        home: 0,
+        berth: 0,
+        action: Action::Take,
+        vessel: 0,
+    },
+    stamp: Stamp {
+        pair: Pair { clock: 0, step: 0 },
+        port: 0,
+    },
+};
 
 // Clock, step and port of what is released, its vessel, and the outcome; or the refusal.
 pub fn released<W: Wire, B: Board>(
@@ -44,7 +62,7 @@ fn one_order<W: Wire + Drop, B: Board + Drop>(
         return Err(Fail::new("no table"));
     };
     let mut net = Net::open(reach, wire, board);
-    let mut working = [Decided::SPARE; 16];
+    let mut working = [NOTHING; 16];
     assert_eq!(rt; net.hand_in(0, 0, 100, 3, 0, 4, 1, 7), Ok(1));
     assert_eq!(rt; net.hand_in(1, 0, 90, 3, 0, 4, 1, 9), Ok(1));
     assert_eq!(rt; net.decide(0, 0, [1, 0, 0, 0], &mut working), Ok((1, 1)));
@@ -108,7 +126,7 @@ fn a_clearance_raises_the_floor(rt: HostRuntime) -> Result<(), Fail> {
         return Err(Fail::new("no table"));
     };
     let mut net = Net::open(reach, RowWire::new(), FirstCome::new());
-    let mut working = [Decided::SPARE; 16];
+    let mut working = [NOTHING; 16];
     assert_eq!(rt;
         net.clear(0, 100),
         Ok(Pair {

@@ -1,4 +1,6 @@
 // What a caller of the ordered list learns, and the list tried on both kinds of notice.
+#![tactic(auto)]
+
 ghost use Rattle.records.specs.Keys.{handed_before};
 ghost use Rattle.std.specs.Prelude.{◌≡◌, if◌then◌else◌, Some, Ok};
 

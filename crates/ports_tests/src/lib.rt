@@ -1,4 +1,6 @@
 // One port, tried from outside.
+#![tactic(auto)]
+
 #[cfg(test)]
 mod arrivals; // fetched records, who holds them, and their release
 #[cfg(test)]

@@ -6,8 +6,10 @@
 // - of a fetch, 0 and the stamp of the record that arrived, as clock.step.port, and for a notice its home, berth and
 //   vessel, as home/berth vessel; or 16 where nothing has arrived.
 // A refusal by reader or table prints the place, X and its number, and ends it. Other events print nothing.
+#![tactic(auto)]
+
 use bag_wire::BagWire;
-use events::behind::{EventReader, open_stream};
+use streams::behind::{EventReader, open_stream};
 use events::event::Event;
 use events::reader::LONGEST;
 use radio_box::carrying::carry;

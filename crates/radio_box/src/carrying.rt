@@ -10,7 +10,7 @@ use wires::wire::Wire;
 
 // Puts, brings or takes what the event says; an event that is not for a box is passed over.
 pub fn carry<W: Wire>(wire: &mut W, table: &Reach, event: Event) -> Carried
-    ensures { Carries line depth wire.old wire.new table.now.masks event result }
+    ensures { Carries W.line W.depth wire.old wire.new table.now.masks event result }
 {
     match event {
         Event::Bring { from, to } => {

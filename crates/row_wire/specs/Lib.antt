@@ -1,4 +1,3 @@
 pub mod Rings
 pub mod Rows
-pub mod RowLaws
-pub mod RingLaws
+pub mod Fits

@@ -1,4 +1,6 @@
 // The row wire: a ring for each line, on which a record put has arrived.
+#![tactic(auto)]
+
 mod ring; // one line's records, in sixteen slots that are used in turn
 pub mod rows; // the wire
 

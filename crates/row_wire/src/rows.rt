@@ -1,9 +1,10 @@
 // A wire of rings, one for each line.
-ghost use Rattle.std.specs.Prelude.{◌≡◌, ℕ};
+ghost use Rattle.std.specs.Prelude.{◌≡◌, ℕ, refl};
 ghost use Rattle.row_wire.specs.Rows.{place_of, row_lines, AllArrived};
 ghost use Rattle.wires.specs.Lines.{PutAnswers, TakeAnswers, Brought, Emptied};
-ghost use Rattle.row_wire.specs.RowLaws.{line_fits};
-ghost use Rattle.std.proofs.Common.{rules};
+ghost use Rattle.row_wire.specs.Fits.{line_fits};
+ghost use Rattle.std.proofs.lemmas.Bool.{leb-true};
+ghost use Rattle.std.proofs.Math.Nat.{le_refl};
 
 use crate::ring::{DEPTH, Ring};
 use records::fault::NetFault;
@@ -45,9 +46,9 @@ impl Wire for RowWire {
 
     ghost depth = { 16 };
 
-    ghost depths = { Prim.search rules };
+    ghost depths = { (leb-true 4 16 refl, leb-true 16 16 refl) };
 
-    ghost arrived = { Prim.search rules };
+    ghost arrived = { λ w p q. le_refl _ };
 
     ghost fits = { λ w p q. line_fits w.rings p q };
 

@@ -3,7 +3,7 @@ use Rattle.std.proofs.Common.{◌≡◌, ℕ, List, [], ◌∷◌, ◌++◌, map
 use mathlib.Core.List.{reverse-cons}
 use Rattle.std.proofs.lemmas.List.{map-append}
 use Rattle.boards.specs.Rules.{Rule}
-use Rattle.events.specs.declared.part.StreamFault.{StreamFault}
+use Rattle.streams.specs.declared.part.StreamFault.{StreamFault}
 use Rattle.events.specs.Fields.{read_at, event}
 use Rattle.answers.specs.declared.answer.Answered.{Answered}
 use Rattle.model.specs.Histories.{Told, History, Lived, Step, handed, decided, cleared, brought, fetched, released, refused}

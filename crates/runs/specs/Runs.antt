@@ -4,10 +4,11 @@ use Rattle.records.specs.declared.fault.NetFault.{NetFault}
 use Rattle.records.specs.declared.reach.Reach.{Reach}
 use Rattle.records.specs.Reaching.{mask_bytes}
 use Rattle.boards.specs.Rules.{Rule}
-use Rattle.events.specs.declared.part.Refusal.{Refusal}
-use Rattle.events.specs.declared.part.StreamFault.{StreamFault}
+use Rattle.streams.specs.declared.part.Refusal.{Refusal}
+use Rattle.streams.specs.declared.part.StreamFault.{StreamFault}
 use Rattle.events.specs.Fields.{read_at, event, end}
-use Rattle.events.specs.Streams.{FirstTable, FirstRefused, place_of, Stops}
+use Rattle.events.specs.Streams.{FirstTable}
+use Rattle.streams.specs.Streams.{FirstRefused, place_of, Stops}
 use Rattle.answers.specs.declared.answer.Answer.{Answer}
 use Rattle.answers.specs.declared.answer.Answered.{Answered}
 use Rattle.model.specs.Answers.{call_of}

@@ -13,7 +13,7 @@ use wires::wire::Wire;
 
 // Makes the call that the event is, and answers what the net answers. A refusal leaves the net as it was.
 pub fn run_event<W: Wire, B: Board>(net: &mut Net<W, B>, event: Event) -> Result<Answer, NetFault>
-    ensures ran { Ran depth rule (view line shown net.old) event result (view line shown net.new) }
+    ensures ran { Ran W.depth B.rule (view W.line B.shown net.old) event result (view W.line B.shown net.new) }
     ensures same { OnErr result (SameNet net.old net.new) }
 {
     Ok(match event {

@@ -8,10 +8,10 @@ ghost use Rattle.std.specs.Prelude.{◌≡◌, ℕ, [], MatchResult};
 use crate::stepping::run_event;
 use answers::answer::Answered;
 use boards::board::Board;
-use events::behind::{EventReader, open_stream};
-use events::part::{Refusal, StreamFault};
 use nets::net::Net;
 use std::alloc::Global;
+use streams::behind::{EventReader, open_stream};
+use streams::part::{Refusal, StreamFault};
 use wires::wire::Wire;
 
 // What a stream came to: the answers to its events in their order, the net after them, and whether the stream was run to its
@@ -38,7 +38,7 @@ fn run_next<W: Wire, B: Board>(
     answers: &mut Vec<Answered>,
 ) -> Result<bool, StreamFault>
     ensures stream { events.new.stream.now ≡ events.old.stream.now }
-    ensures turn { TurnAnswers depth rule events.old.stream.now events.old.place answers.old.items (view line shown net.old) events.new.place answers.new.items (view line shown net.new) result }
+    ensures turn { TurnAnswers W.depth B.rule events.old.stream.now events.old.place answers.old.items (view W.line B.shown net.old) events.new.place answers.new.items (view W.line B.shown net.new) result }
 {
     let at = events.place();
     let event = match events.next()? {
@@ -65,9 +65,9 @@ fn run_events<W: Wire, B: Board>(
     net: &mut Net<W, B>,
     answers: &mut Vec<Answered>,
 ) -> Result<(), StreamFault>
-    requires { (Lived depth rule [] (view line shown net.old)) × (answers.old.items ≡ []) }
-    ensures table { (view line shown net.new).table ≡ (view line shown net.old).table }
-    ensures ran { RanEvents depth rule events.old.stream.now events.old.place answers.new.items result (view line shown net.new) }
+    requires { (Lived W.depth B.rule [] (view W.line B.shown net.old)) × (answers.old.items ≡ []) }
+    ensures table { (view W.line B.shown net.new).table ≡ (view W.line B.shown net.old).table }
+    ensures ran { RanEvents W.depth B.rule events.old.stream.now events.old.place answers.new.items result (view W.line B.shown net.new) }
 {
     'fields: loop {
         if !run_next(events, net, answers)? {
@@ -84,7 +84,7 @@ pub fn run_stream<W: Wire, B: Board>(
     wire: W,
     board: B,
 ) -> Result<Run<W, B>, Unopened<W, B>>
-    ensures { MatchResult result (λ run. RanStream depth rule stream.now run.answers.items run.end (view line shown run.net)) (λ u. FirstStops stream.now u.refusal × (u.wire ≡ wire) × (u.board ≡ board)) }
+    ensures { MatchResult result (λ run. RanStream W.depth B.rule stream.now run.answers.items run.end (view W.line B.shown run.net)) (λ u. FirstStops stream.now u.refusal × (u.wire ≡ wire) × (u.board ≡ board)) }
 {
     let opened = match open_stream(stream) {
         Ok(opened) => opened,

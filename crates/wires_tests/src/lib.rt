@@ -1,4 +1,6 @@
 // Both kinds of wire, tried from outside.
+#![tactic(auto)]
+
 #[cfg(test)]
 mod bags; // what only the bag wire does
 #[cfg(test)]

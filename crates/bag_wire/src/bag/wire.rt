@@ -1,12 +1,10 @@
 // What a bag wire does.
-ghost use Rattle.std.specs.Prelude.{◌≡◌, ℕ, length};
+ghost use Rattle.std.specs.Prelude.{◌≡◌, ℕ, length, refl, take};
 ghost use Rattle.bag_wire.specs.Bags.{bag_lines};
 ghost use Rattle.wires.specs.Lines.{depth_of, PutAnswers, Brought, Emptied};
-ghost use Rattle.std.proofs.Common.{arith, rules};
-ghost use Rattle.std.proofs.Math.ListN;
-ghost use Rattle.std.proofs.lemmas.List.{length-map};
-ghost use Rattle.std.proofs.lemmas.List.Sums.{prefix_len-le-length};
+ghost use Rattle.bag_wire.specs.Fits.{arrived_fits, held_fits};
 ghost use Rattle.bag_wire.specs.Journals.{kept};
+ghost use Rattle.std.proofs.lemmas.Bool.{leb-true};
 
 use crate::bag::BagWire;
 use crate::entry::Entry;
@@ -47,15 +45,11 @@ impl Wire for BagWire {
 
     ghost depth = { 8 };
 
-    ghost depths = { first_of (Prim.search rules, Prim.grind (arith, Self.row.coded.inj)) };
+    ghost depths = { (leb-true 4 8 refl, leb-true 8 16 refl) };
 
-    ghost arrived = { λ w p q.
-        let ks = kept (ListN.take w.len w.entries) p q in
-        omega (arith, prefix_len-le-length (λ e. e.arrived) ks, length-map ks (λ e. e.item)) };
+    ghost arrived = { λ w p q. arrived_fits (kept (take w.len w.entries) p q) };
 
-    ghost fits = { λ w p q.
-        let ks = kept (ListN.take w.len w.entries) p q in
-        omega (arith, w.ok.2 p q, length-map ks (λ e. e.item)) };
+    ghost fits = { λ w p q. held_fits (kept (take w.len w.entries) p q) _ (w.ok.2 p q) };
 
     fn put(&mut self, from: u8, to: u8, record: Record) -> Result<(), NetFault>
         ensures does { PutAnswers 8 (bag_lines self.old) (bag_lines self.new) from to «record» result }

@@ -4,73 +4,73 @@ use Rattle.nets.specs.Handing.{hand_in_call}
 use Rattle.runs.proofs.Running.{ran_taken, ran_refused, handed_on, all_same, same_at}
 use Rattle.runs.proofs.stepping.run_event.Goals as goal
 
-pub returns-in_err-hand_in : goal.returns-in_err-hand_in
-returns-in_err-hand_in g c =
-    let e = handed_on c.from-residual.result c.from-residual.ensures.1 in
-    let p = c.in_err-hand_in.ensures in
+pub returns-in_err-hand_in-in-HandIn : goal.returns-in_err-hand_in-in-HandIn
+returns-in_err-hand_in-in-HandIn g c =
+    let e = handed_on c.from_residual.result c.from_residual.ensures.1 in
+    let p = c.in_err-hand_in-in-HandIn.ensures in
     record { ran = ran_refused c.in-HandIn.is e p.kept; same = same_at e p.same }
 
-pub returns-in_err-notices : goal.returns-in_err-notices
-returns-in_err-notices g c =
-    let e = handed_on c.from-residual-in_err-notices.result c.from-residual-in_err-notices.ensures.1 in
-    let p = c.in_err-notices.ensures in
+pub returns-in_err-notices-in-Decide : goal.returns-in_err-notices-in-Decide
+returns-in_err-notices-in-Decide g c =
+    let e = handed_on c.from_residual-in_err-notices-in-Decide.result c.from_residual-in_err-notices-in-Decide.ensures.1 in
+    let p = c.in_err-notices-in-Decide.ensures in
     record { ran = ran_refused c.in-Decide.is e p.kept; same = same_at e (all_same p.same.0) }
 
-pub returns-in_err-clear : goal.returns-in_err-clear
-returns-in_err-clear g c =
-    let e = handed_on c.from-residual-in_err-clear.result c.from-residual-in_err-clear.ensures.1 in
-    let p = c.in_err-clear.ensures in
+pub returns-in_err-clear-in-Clear : goal.returns-in_err-clear-in-Clear
+returns-in_err-clear-in-Clear g c =
+    let e = handed_on c.from_residual-in_err-clear-in-Clear.result c.from_residual-in_err-clear-in-Clear.ensures.1 in
+    let p = c.in_err-clear-in-Clear.ensures in
     record { ran = ran_refused c.in-Clear.is e p.kept; same = same_at e p.same }
 
-pub returns-in_err-bring : goal.returns-in_err-bring
-returns-in_err-bring g c =
-    let e = handed_on c.from-residual-in_err-bring.result c.from-residual-in_err-bring.ensures.1 in
-    let p = c.in_err-bring.ensures in
+pub returns-in_err-bring-in-Bring : goal.returns-in_err-bring-in-Bring
+returns-in_err-bring-in-Bring g c =
+    let e = handed_on c.from_residual-in_err-bring-in-Bring.result c.from_residual-in_err-bring-in-Bring.ensures.1 in
+    let p = c.in_err-bring-in-Bring.ensures in
     record { ran = ran_refused c.in-Bring.is e p.kept; same = same_at e (all_same p.same) }
 
-pub returns-in_err-fetch : goal.returns-in_err-fetch
-returns-in_err-fetch g c =
-    let e = handed_on c.from-residual-in_err-fetch.result c.from-residual-in_err-fetch.ensures.1 in
-    let p = c.in_err-fetch.ensures in
+pub returns-in_err-fetch-in-Fetch : goal.returns-in_err-fetch-in-Fetch
+returns-in_err-fetch-in-Fetch g c =
+    let e = handed_on c.from_residual-in_err-fetch-in-Fetch.result c.from_residual-in_err-fetch-in-Fetch.ensures.1 in
+    let p = c.in_err-fetch-in-Fetch.ensures in
     record { ran = ran_refused c.in-Fetch.is e p.kept; same = same_at e (all_same p.same) }
 
-pub returns-in_err-notice : goal.returns-in_err-notice
-returns-in_err-notice g c =
-    let e = handed_on c.from-residual-in_err-notice.result c.from-residual-in_err-notice.ensures.1 in
-    let p = c.in_err-notice.ensures in
+pub returns-in_err-notice-in-Release : goal.returns-in_err-notice-in-Release
+returns-in_err-notice-in-Release g c =
+    let e = handed_on c.from_residual-in_err-notice-in-Release.result c.from_residual-in_err-notice-in-Release.ensures.1 in
+    let p = c.in_err-notice-in-Release.ensures in
     record { ran = ran_refused c.in-Release.is e p.kept; same = same_at e (all_same p.same) }
 
-pub returns-in_ok-hand_in : goal.returns-in_ok-hand_in
-returns-in_ok-hand_in g c =
+pub returns-in_ok-hand_in-in-HandIn : goal.returns-in_ok-hand_in-in-HandIn
+returns-in_ok-hand_in-in-HandIn g c =
     let x = c.in-HandIn in
-    let k = c.in_ok-hand_in in
+    let k = c.in_ok-hand_in-in-HandIn in
     record { ran = ran_taken (handed (hand_in_call x.port x.dispatcher x.reading x.mask x.home x.berth x.action x.vessel) k.field-0) x.is refl k.ensures.kept; same = tt }
 
-pub returns-in_ok-notices : goal.returns-in_ok-notices
-returns-in_ok-notices g c =
+pub returns-in_ok-notices-in-Decide : goal.returns-in_ok-notices-in-Decide
+returns-in_ok-notices-in-Decide g c =
     let x = c.in-Decide in
-    let k = c.in_ok-notices in
+    let k = c.in_ok-notices-in-Decide in
     let p = k.ensures.kept in
     record { ran = ran_taken (decided (record { port = x.port; number = x.number; cuts = x.cuts; places = 16 }) p.0 k.notices k.copies) x.is refl p.1; same = tt }
 
-pub returns-in_ok-clear : goal.returns-in_ok-clear
-returns-in_ok-clear g c =
+pub returns-in_ok-clear-in-Clear : goal.returns-in_ok-clear-in-Clear
+returns-in_ok-clear-in-Clear g c =
     let x = c.in-Clear in
-    let k = c.in_ok-clear in
+    let k = c.in_ok-clear-in-Clear in
     record { ran = ran_taken (cleared x.port x.reading k.field-0) x.is refl k.ensures.kept; same = tt }
 
-pub returns-in_ok-bring : goal.returns-in_ok-bring
-returns-in_ok-bring g c =
+pub returns-in_ok-bring-in-Bring : goal.returns-in_ok-bring-in-Bring
+returns-in_ok-bring-in-Bring g c =
     let x = c.in-Bring in
-    record { ran = ran_taken (brought x.from x.to) x.is refl c.in_ok-bring.ensures.kept; same = tt }
+    record { ran = ran_taken (brought x.from x.to) x.is refl c.in_ok-bring-in-Bring.ensures.kept; same = tt }
 
-pub returns-in_ok-fetch : goal.returns-in_ok-fetch
-returns-in_ok-fetch g c =
+pub returns-in_ok-fetch-in-Fetch : goal.returns-in_ok-fetch-in-Fetch
+returns-in_ok-fetch-in-Fetch g c =
     let x = c.in-Fetch in
-    record { ran = ran_taken (fetched x.port x.source) x.is refl c.in_ok-fetch.ensures.kept; same = tt }
+    record { ran = ran_taken (fetched x.port x.source) x.is refl c.in_ok-fetch-in-Fetch.ensures.kept; same = tt }
 
-pub returns-in_ok-notice : goal.returns-in_ok-notice
-returns-in_ok-notice g c =
+pub returns-in_ok-notice-in-Release : goal.returns-in_ok-notice-in-Release
+returns-in_ok-notice-in-Release g c =
     let x = c.in-Release in
-    let k = c.in_ok-notice in
+    let k = c.in_ok-notice-in-Release in
     record { ran = ran_taken (released x.port k.notice k.outcome) x.is refl k.ensures.kept; same = tt }

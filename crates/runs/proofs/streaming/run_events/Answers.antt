@@ -15,7 +15,7 @@ returns-in_err-run_next g c =
     let s = c.args.events.now.stream.now in
     let p = c.fields.events.place in
     let f = c.in_err-run_next.field-0.0 in
-    let e = handed_on {f = f} c.from-residual.result c.from-residual.ensures.1 in
+    let e = handed_on {f = f} c.from_residual.result c.from_residual.ensures.1 in
     let turn = subst (λ x. TurnAnswers g.W.Wire.depth g.B.Board.rule x p (vec_items c.fields.answers) (seen c.fields.net) c.run_next.new.events.place (vec_items c.run_next.new.answers) (seen c.run_next.new.net) (Err f)) c.fields.invariant.0 c.in_err-run_next.ensures.turn in
     record {
       table = ap (λ v. v.table) turn.2 ∙ c.fields.invariant.1;

@@ -1,6 +1,6 @@
 use Rattle.std.proofs.Common.{Ok, refl, ap, ◌∙◌, subst}
 use Rattle.events.specs.Fields.{read_at}
-use Rattle.events.specs.Streams.{EventAnswers}
+use Rattle.streams.specs.Streams.{EventAnswers}
 use Rattle.runs.proofs.streaming.run_next.Goals as goal
 
 pub returns-then-is_err : goal.returns-then-is_err
@@ -13,12 +13,3 @@ returns-then-is_err g c =
       stream = c.next.ensures.stream;
       turn = ((c.place-at.ensures, (c.in-Some.event, q, ap (read_at s) c.place-at.ensures ∙ found.0)), c.reserve.ensures.items, refl);
     }
-
-pub returns-in_err-event : goal.returns-in_err-event
-returns-in_err-event g c = ?
-
-pub returns-in-None : goal.returns-in-None
-returns-in-None g c = ?
-
-pub returns : goal.returns
-returns g c = ?

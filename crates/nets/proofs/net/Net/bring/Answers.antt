@@ -1,8 +1,6 @@
-use Rattle.std.proofs.Common.{◌≡◌, true, false, not, ◌||◌, Some, None, sym, refl, ap, ◌∙◌}
+use Rattle.std.proofs.Common.{not, sym, refl, ap, ◌∙◌}
 use Rattle.records.specs.declared.fault.NetFault.TheVariants.{NoSuchPort, OutOfReach}
 use Rattle.model.specs.Calls.{bring}
-use Rattle.model.specs.Refusals.{bring_fault, ◌when◌else◌}
-use Rattle.model.specs.Views.{outside, sends}
 use Rattle.nets.specs.Views.{table_of, view}
 use Rattle.nets.proofs.Keeping.{kept, kept_refused, stops, passes, any_of}
 use Rattle.nets.proofs.net.Net.bring.Goals as goal

@@ -1,14 +1,12 @@
-use Rattle.std.proofs.Common.{◌≡◌, ℕ, true, false, get_or, sym, refl, ap, ◌∙◌, subst}
+use Rattle.std.proofs.Common.{◌≡◌, true, false, sym, refl, ap, ◌∙◌, subst}
 use Rattle.records.specs.declared.fault.NetFault.TheVariants.{NoSuchPort, StepUsedUp, LineFull}
 use Rattle.records.specs.declared.notice.Record.TheVariants.{Empty}
-use Rattle.records.specs.declared.stamp.Pair.{Pair}
 use Rattle.wires.specs.Growths.{Grown, to_each}
 use Rattle.model.specs.Calls.{clear}
 use Rattle.model.specs.Histories.{refused}
 use Rattle.model.specs.Refusals.{clearance_on, clearance_stamp, room}
 use Rattle.model.specs.Stamping.{next_pair, step_fits}
 use Rattle.model.specs.Steps.{after_clear}
-use Rattle.ports.specs.Ports.{port_view}
 use Rattle.nets.specs.Promises.{Kept}
 use Rattle.nets.specs.Views.{table_of, ports_of, view}
 use Rattle.nets.proofs.Clearing.{step_used, no_room, can_clear, on_lines}
@@ -63,7 +61,7 @@ invariant_of-self-2 g c =
     let n = c.args.self.now in
     let p = c.args.port in
     let lt = inside_table n.reach p (sym c.lacks.ensures ∙ c.if-lacks.false) in
-    numbered_still n.ports p n.own lt c.index-self-at-2.result c.clear.new.self c.clear.ensures.own
+    record { own = numbered_still n.ports p n.own lt c.index-self-at-2.result c.clear.new.self c.clear.ensures.own }
 
 pub returns : goal.returns
 returns g c =

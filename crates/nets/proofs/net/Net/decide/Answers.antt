@@ -63,7 +63,7 @@ invariant_of-self-2 g c =
     let e = c.index-self-at-2.result in
     let planned : deciding_fault (ports_of n.ports p) x ≡ None = fault_is n.ports x n.own lt c.index-self-at.result ∙ c.in-Ok.ensures.accepted in
     let b = decided_so n.ports x n.own lt e c.decide.new.self c.decide.result planned c.decide.ensures in
-    numbered_still n.ports p n.own lt e c.decide.new.self b.own
+    record { own = numbered_still n.ports p n.own lt e c.decide.new.self b.own }
 
 pub returns : goal.returns
 returns g c =

@@ -1,13 +1,9 @@
-use Rattle.std.proofs.Common.{◌≡◌, ℕ, ◌<◌, true, false, not, ◌&&◌, leb, List, ◌∷◌, get_or, Some, None, sym, refl, ap, ◌∙◌, subst, arith}
-use mathlib.Core.List.{Memᴰ}
+use Rattle.std.proofs.Common.{◌≡◌, true, false, not, get_or, sym, refl, ap, ◌∙◌, subst}
 use Rattle.std.proofs.lemmas.List.{get_or_default}
 use Rattle.std.proofs.lemmas.Bool.{not-true, not-false}
-use Rattle.records.specs.declared.fault.NetFault.TheVariants.{NoSuchPort, OutOfReach, NothingArrived, SourceWaitingFull}
-use Rattle.model.specs.Batches.{count_from}
-use Rattle.model.specs.Calls.{fetch}
-use Rattle.model.specs.Refusals.{is_notice}
+use Rattle.records.specs.declared.fault.NetFault.TheVariants.{NoSuchPort}
 use Rattle.model.specs.Steps.{after_fetch}
-use Rattle.ports.specs.Ports.{port_view, misfits, Became}
+use Rattle.ports.specs.Ports.{port_view, misfits}
 use Rattle.nets.specs.Views.{ports_of, view}
 use Rattle.nets.proofs.Keeping.{kept_after, stops, any_of, first_inside, second_inside}
 use Rattle.nets.proofs.Ports.{port_is, own_is, only_port, numbered_still, in_ports}
@@ -65,7 +61,7 @@ invariant_of-self g c =
     let same = get_or_default n.ports p d e (in_ports n.ports p n.own lt) in
     let ok : misfits (get_or n.ports p d).own f c.in-Some.record (port_view (get_or n.ports p d)).waiting ≡ false = not-true _ (sym c.takes.ensures ∙ c.if-not-takes.false) in
     let b = admitted (get_or n.ports p e) c.admit.new.self f c.in-Some.record c.admit.result (second_inside n.reach p f there) (subst (λ x. misfits x.own f c.in-Some.record (port_view x).waiting ≡ false) same ok) c.admit.ensures in
-    numbered_still n.ports p n.own lt e c.admit.new.self b.own
+    record { own = numbered_still n.ports p n.own lt e c.admit.new.self b.own }
 
 pub returns : goal.returns
 returns g c =

@@ -1,4 +1,4 @@
-use Rattle.std.proofs.Common.{◌≡◌, true, false, not, ◌||◌, eqb, get_or, sym, refl, ap, ◌∙◌, subst}
+use Rattle.std.proofs.Common.{not, eqb, get_or, sym, refl, ap, ◌∙◌, subst}
 use Rattle.records.specs.declared.fault.NetFault.TheVariants.{NoSuchPort, NoSuchDispatcher, WrongContent, WrongDestinations}
 use Rattle.model.specs.Calls.{hand_in}
 use Rattle.ports.specs.Ports.{HandsIn}
@@ -50,7 +50,7 @@ invariant_of-self g c =
     let p = c.args.port in
     let d = c.index-ports-at.result in
     let lt = inside_table n.reach p (sym c.lacks.ensures ∙ c.if-lacks.false) in
-    numbered_still n.ports p n.own lt d c.hand_in.new.self (still_own (get_or n.ports p d) c.hand_in.new.self _ c.hand_in.result c.hand_in.ensures)
+    record { own = numbered_still n.ports p n.own lt d c.hand_in.new.self (still_own (get_or n.ports p d) c.hand_in.new.self _ c.hand_in.result c.hand_in.ensures) }
 
 pub returns : goal.returns
 returns g c =

@@ -1,4 +1,4 @@
-use Rattle.std.proofs.Common.{◌≡◌, [], ◌∷◌, sym, refl, ap, ◌∙◌}
+use Rattle.std.proofs.Common.{refl}
 use Rattle.model.specs.Histories.{opened}
 use Rattle.nets.proofs.Opening.{reaches, all_fresh}
 use Rattle.nets.proofs.net.Net.open.Goals as goal

@@ -1,4 +1,4 @@
-use Rattle.std.proofs.Common.{◌≡◌, ◌<◌, get_or, Some, None, sym, refl, ap, ◌∙◌, subst, arith}
+use Rattle.std.proofs.Common.{get_or, Some, sym, refl, ap, ◌∙◌, subst}
 use Rattle.records.specs.declared.fault.NetFault.TheVariants.{NoSuchPort, NothingWaits, Held}
 use Rattle.model.specs.Calls.{release}
 use Rattle.model.specs.Lists.{rest}
@@ -48,7 +48,7 @@ invariant_of-self g c =
     let x = c.in-Some.lowest in
     let low : Lowest (port_view (get_or n.ports p d)).waiting (Some x) = subst (λ o. Lowest o.waiting (Some x)) (sym (port_is n.ports p n.own lt c.index-self-at.result) ∙ port_is n.ports p n.own lt d) c.in-Some.ensures in
     let b = released_so (get_or n.ports p d) c.release.new.self c.release.result x c.release.ensures low in
-    numbered_still n.ports p n.own lt d c.release.new.self b.own
+    record { own = numbered_still n.ports p n.own lt d c.release.new.self b.own }
 
 pub returns : goal.returns
 returns g c =

@@ -1,5 +1,5 @@
 use Rattle.std.proofs.Common.{arith}
-use Rattle.row_wire.specs.RingLaws.{held_pop}
+use Rattle.row_wire.proofs.RingLaws.{held_pop}
 use Rattle.row_wire.proofs.ring.Ring.front.Goals as goal
 
 pub returns : goal.returns

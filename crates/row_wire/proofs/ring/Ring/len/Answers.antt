@@ -1,5 +1,5 @@
 use Rattle.std.proofs.Common.{sym}
-use Rattle.row_wire.specs.RingLaws.{length_held}
+use Rattle.row_wire.proofs.RingLaws.{length_held}
 use Rattle.row_wire.proofs.ring.Ring.len.Goals as goal
 
 pub returns : goal.returns

@@ -1,7 +1,7 @@
-use Rattle.std.proofs.Common.{◌≡◌, ◌+◌, ◌<◌, ◌∷◌, set, sym, refl, ap, ◌∙◌, arith}
+use Rattle.std.proofs.Common.{◌≡◌, ◌+◌, ◌<◌, set, sym, refl, ap, ◌∙◌, arith}
 use Rattle.std.proofs.lemmas.Bool.{eqb-true, eqb-false}
 use Rattle.row_wire.specs.Rings.{ringed}
-use Rattle.row_wire.specs.RingLaws.{length_held, ringed_push}
+use Rattle.row_wire.proofs.RingLaws.{length_held, ringed_push}
 use Rattle.row_wire.proofs.ring.Ring.push.Goals as goal
 
 pub returns-then-is_full : goal.returns-then-is_full

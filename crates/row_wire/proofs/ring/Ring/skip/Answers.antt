@@ -1,6 +1,6 @@
 use Rattle.std.proofs.Common.{◌-◌, ap, ◌∙◌, arith}
 use Rattle.row_wire.specs.Rings.{ringed}
-use Rattle.row_wire.specs.RingLaws.{held_skip}
+use Rattle.row_wire.proofs.RingLaws.{held_skip}
 use Rattle.row_wire.proofs.ring.Ring.skip.Goals as goal
 
 pub returns-then-self-gt0 : goal.returns-then-self-gt0

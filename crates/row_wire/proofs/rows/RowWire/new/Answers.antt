@@ -1,5 +1,5 @@
 use Rattle.std.proofs.Common.{replicate}
-use Rattle.row_wire.specs.RowLaws.{clear_new, all_empty}
+use Rattle.row_wire.proofs.RowLaws.{clear_new, all_empty}
 use Rattle.row_wire.proofs.rows.RowWire.new.Goals as goal
 
 pub returns : goal.returns

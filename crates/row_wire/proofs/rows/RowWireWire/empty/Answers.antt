@@ -1,5 +1,5 @@
 use Rattle.std.proofs.Common.{refl, arith}
-use Rattle.row_wire.specs.RowLaws.{clear_more, all_empty}
+use Rattle.row_wire.proofs.RowLaws.{clear_more, all_empty}
 use Rattle.row_wire.proofs.rows.RowWireWire.empty.Goals as goal
 
 pub loop-ring-preserved : goal.loop-ring-preserved

@@ -1,6 +1,6 @@
 use Rattle.std.proofs.Common.{◌≡◌, length, get_or, ap, arith}
-use Rattle.row_wire.specs.RingLaws.{held_fits}
-use Rattle.row_wire.specs.RowLaws.{held_is, depth_is}
+use Rattle.row_wire.specs.Fits.{held_fits}
+use Rattle.row_wire.proofs.RowLaws.{held_is, depth_is}
 use Rattle.row_wire.proofs.rows.RowWireWire.free.Goals as goal
 
 pub overflow_sub-result : goal.overflow_sub-result

@@ -1,5 +1,5 @@
 use Rattle.std.proofs.Common.{◌≡◌, length, arith}
-use Rattle.row_wire.specs.RowLaws.{look_here}
+use Rattle.row_wire.proofs.RowLaws.{look_here}
 use Rattle.row_wire.proofs.rows.RowWireWire.look.Goals as goal
 
 pub returns-in-Some : goal.returns-in-Some

@@ -1,5 +1,5 @@
 use Rattle.std.proofs.Common.{◌≡◌, length, refl, arith}
-use Rattle.row_wire.specs.RowLaws.{put_here}
+use Rattle.row_wire.proofs.RowLaws.{put_here}
 use Rattle.row_wire.proofs.rows.RowWireWire.put.Goals as goal
 
 pub returns : goal.returns

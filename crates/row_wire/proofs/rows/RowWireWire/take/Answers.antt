@@ -1,5 +1,5 @@
 use Rattle.std.proofs.Common.{◌≡◌, length, refl, arith}
-use Rattle.row_wire.specs.RowLaws.{take_here}
+use Rattle.row_wire.proofs.RowLaws.{take_here}
 use Rattle.row_wire.proofs.rows.RowWireWire.take.Goals as goal
 
 pub returns : goal.returns

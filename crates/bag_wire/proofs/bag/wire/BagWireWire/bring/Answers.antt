@@ -2,7 +2,7 @@ use Rattle.bag_wire.proofs.Edits.{bring_ok, bring_done, bring_all}
 use Rattle.bag_wire.proofs.bag.wire.BagWireWire.bring.Goals as goal
 
 pub invariant_of-self : goal.invariant_of-self
-invariant_of-self c = let w = c.args.self.now in (bring_ok w.entries w.len w.ok c.args.from c.args.to c.mark.new.entries c.mark.ensures, tt)
+invariant_of-self c = let w = c.args.self.now in record { ok = bring_ok w.entries w.len w.ok c.args.from c.args.to c.mark.new.entries c.mark.ensures }
 
 pub returns : goal.returns
 returns c =

@@ -1,4 +1,4 @@
-use Rattle.std.proofs.Common.{◌≡◌, length, ap, arith}
+use Rattle.std.proofs.Common.{length, ap, arith}
 use Rattle.bag_wire.specs.Journals.{kept}
 use Rattle.bag_wire.proofs.Edits.{mid_is, length_line}
 use Rattle.bag_wire.proofs.bag.wire.BagWireWire.free.Goals as goal

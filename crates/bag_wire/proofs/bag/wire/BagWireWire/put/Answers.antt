@@ -6,7 +6,7 @@ pub bounds-self-self : goal.bounds-self-self
 bounds-self-self c = let w = c.args.self.now in put_within w.entries w.len w.ok c.args.from c.args.to c.args.record c.fresh.result c.fresh.ensures (omega arith)
 
 pub invariant_of-self : goal.invariant_of-self
-invariant_of-self c = let w = c.args.self.now in (put_ok w.entries w.len w.ok c.args.from c.args.to c.args.record c.fresh.result c.fresh.ensures (omega arith), tt)
+invariant_of-self c = let w = c.args.self.now in record { ok = put_ok w.entries w.len w.ok c.args.from c.args.to c.args.record c.fresh.result c.fresh.ensures (omega arith) }
 
 pub returns : goal.returns
 returns c =

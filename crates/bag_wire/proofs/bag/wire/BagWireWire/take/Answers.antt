@@ -9,12 +9,12 @@ pub returns-in_err-record : goal.returns-in_err-record
 returns-in_err-record c =
     let w = c.args.self.now in
     let late = look_late w.entries w.len w.ok c.args.from c.args.to c.in_ok-i.i c.in_ok-i.ensures blank c.in_err-record.ensures in
-    subst (TakeAnswers (bag_lines w) (bag_lines w) c.args.from c.args.to) (sym c.from-residual-in_err-record.ensures) (record { none = late; same = λ p q. refl })
+    subst (TakeAnswers (bag_lines w) (bag_lines w) c.args.from c.args.to) (sym c.from_residual-in_err-record.ensures) (record { none = late; same = λ p q. refl })
 
 pub invariant_of-self : goal.invariant_of-self
 invariant_of-self c =
     let w = c.args.self.now in
-    (take_ok w.entries w.len w.ok c.args.from c.args.to c.in_ok-i.i c.in_ok-i.ensures blank c.move_behind.new.entries c.move_behind.ensures, tt)
+    record { ok = take_ok w.entries w.len w.ok c.args.from c.args.to c.in_ok-i.i c.in_ok-i.ensures blank c.move_behind.new.entries c.move_behind.ensures }
 
 pub returns : goal.returns
 returns c =

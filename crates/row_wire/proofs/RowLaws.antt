@@ -1,5 +1,5 @@
 -- What a row of rings means after one ring is changed. Assumes nothing.
-use Rattle.std.specs.Prelude.{◌≡◌, ℕ, zero, suc, ◌+◌, ◌*◌, ◌<◌, ◌≤◌, true, false, cond, ◌≢◌, List, [], ◌∷◌, ◌++◌, map, length, get_or, set, replicate, Some, None, Ok, Err, Option, Result, MatchOption, MatchResult, slice_index_or, slice_set, refl}
+use Rattle.std.specs.Prelude.{◌≡◌, ℕ, ◌+◌, ◌*◌, ◌<◌, true, cond, ◌≢◌, List, [], ◌∷◌, ◌++◌, map, length, get_or, set, replicate, Some, None, Ok, Err, Option, Result, MatchOption, MatchResult, slice_index_or, slice_set, refl}
 use Rattle.std.proofs.Common.{sym, ap, ◌∙◌, arith}
 use Rattle.std.proofs.lemmas.List.{length-map, length-replicate, get_or-replicate, length_push, get_or-map, map-set, get_or-set_same, get_or-set_other}
 use Rattle.std.proofs.lemmas.List.Edits.{fill_by_more}
@@ -7,12 +7,11 @@ use Rattle.std.proofs.lemmas.Bool.{cond-true, cond_both}
 use Rattle.records.specs.declared.fault.NetFault.{NetFault}
 use Rattle.records.specs.declared.fault.NetFault.TheVariants.{LineFull}
 use Rattle.records.specs.declared.notice.Record.{Record}
-use Rattle.wires.specs.Lines.{Line, is_line, depth_of, empty_line, Same, SameBut, Put, PutAnswers, LookAnswers, TakeAnswers, Emptied}
+use Rattle.wires.specs.Lines.{is_line, depth_of, Same, SameBut, PutAnswers, LookAnswers, TakeAnswers, Emptied}
 use Rattle.wires.proofs.LineLaws.{line_ports, same_from_but}
 use Rattle.row_wire.specs.declared.ring.Ring.{Ring}
 use Rattle.row_wire.specs.Rings.{held, Pushed, Full}
 use Rattle.row_wire.specs.Rows.{place_of, held_at, all_here, lines_of}
-use Rattle.row_wire.specs.RingLaws.{held_fits}
 
 -- a place is that of a line, and of one line only
 pub place_some : (p q k : ℕ) → Some k ≡ place_of p q → (is_line p q ≡ true) × (k ≡ p * 8 + q)
@@ -23,18 +22,6 @@ place_some p q k = cond_both (is_line p q) (Some (p * 8 + q)) None (λ o. Some k
 
     none_is : ◌≡◌ {A = Option ℕ} (Some k) None → ⊥
     none_is h = let z : ◌≡◌ {A = ℕ} 0 1 = cc in omega arith
-
-each_fits : (rings : List Ring) (k : ℕ) → length (slice_index_or (map held rings) k []) ≤ 16
-each_fits [] k = omega arith
-each_fits (r ∷ rings) zero = held_fits r
-each_fits (r ∷ rings) (suc k) = each_fits rings k
-
-pub line_fits : (rings : List Ring) (p q : ℕ) → length (held_at rings p q) ≤ depth_of 16 p q
-line_fits rings p q =
-    elim (is_line p q) as (λ b. length (cond b (slice_index_or (map held rings) (p * 8 + q) []) []) ≤ cond b 16 0) [
-      | true ↦ each_fits rings (p * 8 + q)
-      | false ↦ omega arith
-    ]
 
 -- ---- all rings empty
 

@@ -1,6 +1,6 @@
 -- What a ring holds after a push and a pop. Assumes nothing.
-use Rattle.std.specs.Prelude.{◌≡◌, ℕ, zero, suc, ◌+◌, ◌-◌, ◌%◌, ◌<◌, ◌≤◌, ◌≢◌, ◌⊎◌, List, [], ◌∷◌, ◌++◌, length, get_or, drop, set, slice_index_or, slice_set, refl}
-use Rattle.std.proofs.Common.{sym, ap, ◌∙◌, inl, inr, ⊎_elim, arith}
+use Rattle.std.specs.Prelude.{◌≡◌, ℕ, zero, suc, ◌+◌, ◌-◌, ◌%◌, ◌<◌, ◌≤◌, ◌≢◌, List, [], ◌∷◌, ◌++◌, length, get_or, drop, set, slice_index_or, slice_set}
+use Rattle.std.proofs.Common.{sym, ap, ◌∙◌, ⊎_elim, arith}
 use Rattle.std.proofs.lemmas.List.{length-take, length-drop, length-append, length-set, length_push, get_or-take, get_or-drop, get_or_append_left, get_or-append_right, get_or-set_same, get_or-set_other, get_or_push, get_or_default, same_lists}
 use Rattle.std.proofs.lemmas.Bool.{cases_lt, cases_eq}
 use Rattle.records.specs.declared.notice.Record.{Record}
@@ -57,9 +57,6 @@ module _ {A : Type 0} where
 
 pub length_held : (r : Ring) → length (held r) ≡ r.len
 length_held r = length_ringed r.slots r.head r.len r.ok.0 r.ok.1 r.ok.2
-
-pub held_fits : (r : Ring) → length (held r) ≤ 16
-held_fits r = omega (arith, length_held r, r.ok.2)
 
 pub held_pop : (r : Ring) (d : Record) → 0 < r.len → held r ≡ slice_index_or r.slots r.head d ∷ ringed r.slots ((r.head + 1) % 16) (r.len - 1)
 held_pop r d h = ringed_pop r.slots r.head r.len d r.ok.0 r.ok.1 r.ok.2 h
