@@ -1,5 +1,5 @@
 -- How a page grows. Assumes nothing.
-use Rattle.std.proofs.Common.{◌≡◌, ℕ, ◌+◌, ◌<◌, ◌≤◌, cond, List, [], ◌∷◌, ◌++◌, length, get_or, take, drop, is_ok, Ok, Err, Result, sym, refl, ap, ◌∙◌, MatchResult}
+use Rattle.std.proofs.Common.{◌≡◌, ℕ, ◌+◌, ◌<◌, ◌≤◌, cond, List, ◌++◌, length, get_or, take, drop, is_ok, Ok, Err, Result, sym, ap, ◌∙◌, MatchResult}
 use Rattle.std.proofs.lemmas.List.{take_at, append_assoc, append-nil, drop_more, drop_all}
 use Rattle.answers.specs.Texts.{Printed}
 use Rattle.answers.specs.declared.answer.Answered.{Answered}

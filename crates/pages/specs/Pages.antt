@@ -1,7 +1,7 @@
 -- What is printed of a run. Assumes nothing.
 use Rattle.std.specs.Prelude.{ℕ, List, [], ◌∷◌, ◌++◌, Ok, Err, Result}
-use Rattle.events.specs.declared.part.StreamFault.{StreamFault}
-use Rattle.events.specs.declared.part.StreamFault.TheVariants as fault
+use Rattle.streams.specs.declared.part.StreamFault.{StreamFault}
+use Rattle.streams.specs.declared.part.StreamFault.TheVariants as fault
 use Rattle.answers.specs.declared.answer.Answered.{Answered}
 use Rattle.answers.specs.declared.line.Line.TheVariants.{Table, Event, Refused}
 use Rattle.answers.specs.Lines.{line_text}

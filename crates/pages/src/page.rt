@@ -6,8 +6,8 @@ ghost use Rattle.std.specs.Prelude.{◌≡◌, [], ◌++◌, IfOk, MatchResult, 
 
 use answers::answer::Answered;
 use answers::line::{LONGEST_LINE, Line};
-use events::part::{Refusal, StreamFault};
 use std::alloc::{AllocError, Global};
+use streams::part::{Refusal, StreamFault};
 
 // Adds a line behind the page, which stays as it was where memory is wanting.
 fn add(page: &mut Vec<u8>, line: Line) -> Result<(), AllocError>
@@ -43,6 +43,7 @@ pub fn refusal_page(heap: Global, refusal: Refusal) -> Result<Vec<u8>, AllocErro
 }
 
 // The page of a stream that was run: the table's line, a line for each answer, and that of the refusal which ended the run.
+#[tactic(auto, using(crate::proofs::Paging::lines_more))]
 pub fn run_page(
     heap: Global,
     answers: &[Answered],
