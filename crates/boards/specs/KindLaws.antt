@@ -1,15 +1,15 @@
 -- The laws of the two rules. Assumes nothing.
 use Rattle.std.specs.Prelude.{◌≡◌, ℕ, ◌<◌, ◌≤◌, true, false, ◌||◌, [], ◌∷◌, ◌++◌, length, ◌==◌, ◌≢◌, nat_le, refl}
-use Rattle.std.proofs.Common.{sym, ap, arith}
+use Rattle.std.proofs.Common.{sym, ap, ◌∙◌, subst, lit<, zero-le, le_trans, lt_irrefl, add-one}
 use Rattle.std.proofs.lemmas.List.{length_push}
 use Rattle.std.proofs.lemmas.Bool.{cond_both, le-leb, leb-true, leb-false, or_parts, or_from, ne_eqb, eqb-false}
 use Rattle.records.specs.declared.notice.Action.TheVariants.{Take, Leave}
 use Rattle.boards.specs.declared.outcome.Outcome.TheVariants.{Alongside, Gone, Clash, Waits}
-use Rattle.boards.specs.Rules.{Vessels, Turn, listed, once, without, Leaves, FirstStays, StaysOnce, ClashIsSame, StaysHeld}
+use Rattle.boards.specs.Rules.{outcome_number, Vessels, Turn, listed, once, without, Leaves, FirstStays, StaysOnce, ClashIsSame, StaysHeld}
 use Rattle.boards.specs.Kinds.{clash, berthed, left, taken_last, first_come, queue, at_most}
 use Rattle.boards.specs.Shown.{Proper}
 use Rattle.boards.specs.Places.{alone}
-use Rattle.boards.specs.ListLaws.{without_other, not_listed_without, once_without, without_listed, shorter, once_push, push_longer}
+use Rattle.boards.specs.ListLaws.{without_other, not_listed_without, once_without, without_listed, shorter, once_push, not_empty, push_longer}
 
 -- the outcome is a clash exactly when the list is that one
 abbrev Exact : Vessels → Turn → Type 0
@@ -23,13 +23,13 @@ exact_other : (l : Vessels) (t : Turn) → (t.outcome ≢ Clash) → (t.list ≢
 exact_other l t free ne = (λ e. absurd (free e), λ e. absurd (ne e))
 
 gone_no_clash : Gone ≡ Clash → ⊥
-gone_no_clash e = let z : ◌≡◌ {A = ℕ} 0 1 = cc in omega arith
+gone_no_clash e = let n : 2 ≡ 3 = ap outcome_number e in lt_irrefl 2 (subst (λ m. 2 < m) (sym n) (lit< tt))
 
 waits_no_clash : Waits ≡ Clash → ⊥
-waits_no_clash e = let z : ◌≡◌ {A = ℕ} 0 1 = cc in omega arith
+waits_no_clash e = let n : 4 ≡ 3 = ap outcome_number e in lt_irrefl 3 (subst (λ m. 3 < m) n (lit< tt))
 
 alongside_no_clash : Alongside ≡ Clash → ⊥
-alongside_no_clash e = let z : ◌≡◌ {A = ℕ} 0 1 = cc in omega arith
+alongside_no_clash e = let n : 1 ≡ 3 = ap outcome_number e in lt_irrefl 1 (subst (λ m. 1 < m) (sym n) (lit< tt))
 
 -- what holds of both ways of a leave
 pub by_left : (P : Turn → Type 0) (l : Vessels) (v : ℕ) → (listed v l ≡ true → P (record { list = without v l; outcome = Gone })) → (listed v l ≡ false → P (clash l)) → P (left l v)
@@ -48,10 +48,10 @@ exact_left : (l : Vessels) (v : ℕ) → Exact l (left l v)
 exact_left l v = by_left (Exact l) l v (λ there. exact_other l _ gone_no_clash (without_listed v l there)) (λ _. exact_clash l)
 
 held_left : (n : ℕ) (l : Vessels) (v : ℕ) → at_most n l ≡ true → at_most n (left l v).list ≡ true
-held_left n l v h = by_left (λ t. at_most n t.list ≡ true) l v (λ _. le-leb (length (without v l)) n (omega (arith, shorter v l, leb-true (length l) n h))) (λ _. h)
+held_left n l v h = by_left (λ t. at_most n t.list ≡ true) l v (λ _. le-leb (length (without v l)) n (le_trans (shorter v l) (leb-true (length l) n h))) (λ _. h)
 
 exact_berthed : (v : ℕ) → Exact [] (berthed v)
-exact_berthed v = exact_other [] (berthed v) alongside_no_clash (λ e. let z : ◌≡◌ {A = ℕ} 1 0 = ap length e in omega arith)
+exact_berthed v = exact_other [] (berthed v) alongside_no_clash (λ e. not_empty v [] e)
 
 -- ---- first come
 
@@ -104,16 +104,13 @@ queue_clash l Leave v _ _ = exact_left l v
 
 pub queue_held : StaysHeld (at_most 4) queue
 queue_held [] Take v f _ = refl
-queue_held (x ∷ xs) Take v f _ = by_last (λ t. at_most 4 t.list ≡ true) x xs v f.0 (λ _ few. le-leb (length (x ∷ xs ++ v ∷ [])) 4 (omega (arith, length_push (x ∷ xs) v)))
+queue_held (x ∷ xs) Take v f _ = by_last (λ t. at_most 4 t.list ≡ true) x xs v f.0 (λ _ few. le-leb (length (x ∷ xs ++ v ∷ [])) 4 (subst (λ n. n ≤ 4) (sym (length_push (x ∷ xs) v ∙ add-one (length (x ∷ xs)))) few))
 queue_held l Leave v f _ = held_left 4 l v f.0
 
 -- ---- what is shown
 
 pub proper_none : (n : ℕ) → Proper (at_most n) []
-proper_none n = record { held = le-leb 0 n (omega arith); apart = refl; named = refl }
+proper_none n = record { held = le-leb 0 n zero-le; apart = refl; named = refl }
 
 pub proper_alone : (v : ℕ) → Proper (at_most 1) (alone v)
 proper_alone v = cond_both (v == 0) [] (v ∷ []) (Proper (at_most 1)) (λ _. proper_none 1) (λ some. record { held = refl; apart = refl; named = or_from (0 == v) false (ne_eqb 0 v (λ e. eqb-false v 0 some (sym e))) refl })
-
-pub alone_short : (v : ℕ) → length (alone v) ≤ 1
-alone_short v = cond_both (v == 0) [] (v ∷ []) (λ l. length l ≤ 1) (λ _. omega arith) (λ _. omega arith)

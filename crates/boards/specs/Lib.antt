@@ -6,5 +6,4 @@ pub mod Shown
 pub mod KindLaws
 pub mod ListLaws
 pub mod PlaceLaws
-pub mod ShownLaws
 pub mod BerthLaws

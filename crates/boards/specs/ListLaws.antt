@@ -1,7 +1,7 @@
 -- Lists of vessels: who is listed, and who is left without one. Assumes nothing.
-use Rattle.std.specs.Prelude.{◌≡◌, ℕ, ◌+◌, ◌<◌, ◌≤◌, true, false, not, ◌||◌, [], ◌∷◌, ◌++◌, length, drop, ◌==◌, ◌≢◌, slice_index, refl}
-use Rattle.std.proofs.Common.{sym, ap, ◌∙◌, subst, ⊎_elim, arith}
-use Rattle.std.proofs.lemmas.List.{at_drop_more}
+use Rattle.std.specs.Prelude.{◌≡◌, ℕ, ◌≤◌, true, false, not, [], ◌∷◌, ◌++◌, length, ◌==◌, ◌≢◌, refl}
+use Rattle.std.proofs.Common.{sym, ap, ◌∙◌, subst, ⊎_elim, le_refl, le_trans, suc-le-suc}
+use Rattle.std.proofs.Math.Nat.{le-suc}
 use Rattle.std.proofs.lemmas.Bool.{cases_eq, both_ways, eqb-false, eq-eqb, ne_eqb, cond-true, cond-false, and_parts, and_from, or_parts, or_from, or_left, not-true, not_from_true, not_from_false}
 use Rattle.boards.specs.Rules.{Vessels, listed, once, without}
 
@@ -42,8 +42,8 @@ without_unlisted v (x ∷ xs) h =
     without_other v x xs (eqb-false v x p.0) ∙ ap (λ l. x ∷ l) (without_unlisted v xs p.1)
 
 pub shorter : (v : ℕ) (xs : Vessels) → length (without v xs) ≤ length xs
-shorter v [] = omega arith
-shorter v (x ∷ xs) = let le = shorter v xs in by_first (λ l. length l ≤ length (x ∷ xs)) v x xs (λ _. omega arith) (λ _. omega arith)
+shorter v [] = le_refl 0
+shorter v (x ∷ xs) = by_first (λ l. length l ≤ length (x ∷ xs)) v x xs (λ _. le_trans (shorter v xs) (le-suc (length xs))) (λ _. suc-le-suc (shorter v xs))
 
 -- a listed vessel is missed
 pub without_listed : (v : ℕ) (xs : Vessels) → listed v xs ≡ true → without v xs ≢ xs
@@ -60,17 +60,14 @@ once_push v (x ∷ xs) h free =
     let q = or_parts (v == x) (listed v xs) free in
     and_from (not (listed x (xs ++ v ∷ []))) (once (xs ++ v ∷ [])) (not_from_false (listed x (xs ++ v ∷ [])) (unlisted_push x v xs (not-true (listed x xs) p.0) (λ e. eqb-false v x q.0 (sym e)))) (once_push v xs p.1 q.1)
 
+pub not_empty : (v : ℕ) (xs : Vessels) → v ∷ xs ≢ []
+not_empty v xs e = both_ways (listed v (v ∷ xs)) (ap (listed v) e) (or_left (v == v) (listed v xs) (eq-eqb v v refl))
+
+-- the list without its first
+abbrev rest_of : Vessels → Vessels
+rest_of [] = []
+rest_of (x ∷ xs) = xs
+
 pub push_longer : (v : ℕ) (xs : Vessels) → xs ++ v ∷ [] ≢ xs
-push_longer v [] e = let z : ◌≡◌ {A = ℕ} 1 0 = ap length e in omega arith
-push_longer v (x ∷ xs) e = let f : xs ++ v ∷ [] ≡ xs = cc in push_longer v xs f
-
--- ---- a search, place by place
-
-listed_drop : (v : ℕ) (xs : Vessels) (i : ℕ) → i < length xs → listed v (drop i xs) ≡ (v == slice_index xs i || listed v (drop (i + 1) xs))
-listed_drop v xs i h = at_drop_more (listed v) xs i 0 h
-
-pub listed_here : (v : ℕ) (xs : Vessels) (i : ℕ) → i < length xs → slice_index xs i ≡ v → listed v (drop i xs) ≡ true
-listed_here v xs i h e = listed_drop v xs i h ∙ or_left (v == slice_index xs i) (listed v (drop (i + 1) xs)) (eq-eqb v (slice_index xs i) (sym e))
-
-pub listed_later : (v : ℕ) (xs : Vessels) (i : ℕ) → i < length xs → (slice_index xs i ≢ v) → listed v (drop i xs) ≡ listed v (drop (i + 1) xs)
-listed_later v xs i h ne = listed_drop v xs i h ∙ ap (λ b. b || listed v (drop (i + 1) xs)) (ne_eqb v (slice_index xs i) (λ e. ne (sym e)))
+push_longer v [] e = not_empty v [] e
+push_longer v (x ∷ xs) e = push_longer v xs (ap rest_of e)

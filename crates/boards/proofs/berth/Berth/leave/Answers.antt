@@ -3,7 +3,7 @@ use Rattle.std.proofs.lemmas.List.{length-append, length-drop}
 use Rattle.boards.specs.Rules.{listed, once}
 use Rattle.boards.specs.Berths.{vessels_of}
 use Rattle.boards.specs.ListLaws.{once_without, unlisted_without}
-use Rattle.boards.specs.BerthLaws.{said, kept_front, gone}
+use Rattle.boards.proofs.BerthLaws.{said, kept_front, gone}
 use Rattle.boards.proofs.berth.Berth.leave.Goals as goal
 
 pub invariant_of-self : goal.invariant_of-self

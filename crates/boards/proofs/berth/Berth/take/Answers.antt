@@ -3,7 +3,8 @@ use Rattle.std.proofs.lemmas.List.{length-set}
 use Rattle.boards.specs.Rules.{listed, once}
 use Rattle.boards.specs.Berths.{vessels_of}
 use Rattle.boards.specs.ListLaws.{once_push, unlisted_push}
-use Rattle.boards.specs.BerthLaws.{length_vessels, pushed, grows, is_alongside, waits, said}
+use Rattle.boards.specs.BerthLaws.{length_vessels}
+use Rattle.boards.proofs.BerthLaws.{pushed, grows, is_alongside, waits, said}
 use Rattle.boards.proofs.berth.Berth.take.Goals as goal
 
 pub invariant_of-self : goal.invariant_of-self

@@ -1,7 +1,7 @@
 use Rattle.std.proofs.Common.{sym, ◌∙◌, arith}
 use Rattle.std.proofs.lemmas.List.{at_drop_all}
 use Rattle.boards.specs.Rules.{listed}
-use Rattle.boards.specs.ListLaws.{listed_here, listed_later}
+use Rattle.boards.proofs.ListLaws.{listed_here, listed_later}
 use Rattle.boards.proofs.berth.turns.lists.Goals as goal
 
 pub returns-then-other-vessel : goal.returns-then-other-vessel

@@ -1,6 +1,6 @@
 use Rattle.std.proofs.Common.{sym, arith}
 use Rattle.boards.specs.Places.{alone}
-use Rattle.boards.specs.PlaceLaws.{shown_is}
+use Rattle.boards.proofs.PlaceLaws.{shown_is}
 use Rattle.boards.proofs.first_come.FirstCome.first.Goals as goal
 
 pub returns : goal.returns

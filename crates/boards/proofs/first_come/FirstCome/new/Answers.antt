@@ -1,6 +1,6 @@
 use Rattle.std.proofs.Common.{refl}
 use Rattle.boards.specs.Places.{alone}
-use Rattle.boards.specs.PlaceLaws.{empty_new}
+use Rattle.boards.proofs.PlaceLaws.{empty_new}
 use Rattle.boards.proofs.first_come.FirstCome.new.Goals as goal
 
 pub returns : goal.returns

@@ -1,7 +1,7 @@
 use Rattle.std.proofs.Common.{arith}
 use Rattle.boards.specs.Kinds.{first_come}
 use Rattle.boards.specs.Places.{alone}
-use Rattle.boards.specs.PlaceLaws.{applied_here}
+use Rattle.boards.proofs.PlaceLaws.{applied_here}
 use Rattle.boards.proofs.first_come.FirstCome.turn_at.Goals as goal
 
 pub returns-in-Some : goal.returns-in-Some

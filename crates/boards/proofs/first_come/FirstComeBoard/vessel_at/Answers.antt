@@ -1,7 +1,7 @@
 use Rattle.std.proofs.Common.{◌≤◌, length, sym, arith}
 use Rattle.std.proofs.lemmas.List.{get_or_past}
 use Rattle.boards.specs.Places.{alone, shown_by}
-use Rattle.boards.specs.KindLaws.{alone_short}
+use Rattle.boards.proofs.KindLaws.{alone_short}
 use Rattle.boards.specs.PlaceLaws.{shown_each}
 use Rattle.boards.proofs.first_come.FirstComeBoard.vessel_at.Goals as goal
 

@@ -1,6 +1,6 @@
 use Rattle.std.proofs.Common.{sym, arith}
 use Rattle.boards.specs.Berths.{vessels_of}
-use Rattle.boards.specs.PlaceLaws.{shown_is}
+use Rattle.boards.proofs.PlaceLaws.{shown_is}
 use Rattle.boards.proofs.queue.Queue.berth.Goals as goal
 
 pub returns : goal.returns

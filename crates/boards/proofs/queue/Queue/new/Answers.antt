@@ -1,5 +1,5 @@
 use Rattle.boards.specs.Berths.{vessels_of}
-use Rattle.boards.specs.PlaceLaws.{empty_new}
+use Rattle.boards.proofs.PlaceLaws.{empty_new}
 use Rattle.boards.proofs.queue.Queue.new.Goals as goal
 
 pub returns : goal.returns

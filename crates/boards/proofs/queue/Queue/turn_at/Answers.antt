@@ -1,7 +1,7 @@
 use Rattle.std.proofs.Common.{arith}
 use Rattle.boards.specs.Berths.{vessels_of}
 use Rattle.boards.specs.Kinds.{queue}
-use Rattle.boards.specs.PlaceLaws.{applied_here}
+use Rattle.boards.proofs.PlaceLaws.{applied_here}
 use Rattle.boards.proofs.queue.Queue.turn_at.Goals as goal
 
 pub returns-in-Some : goal.returns-in-Some
