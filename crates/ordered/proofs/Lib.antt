@@ -1,4 +1,5 @@
 pub mod Changes
 pub mod Keys
 pub mod Moves
+pub mod Retains
 pub mod Rises

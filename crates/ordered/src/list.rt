@@ -13,24 +13,10 @@ pub struct Full;
 fn place<T: Entry>(entries: &[T], x: &T) -> usize
     ensures { Place T.before x.now entries.now result }
 {
-    for (i, e) in entries.iter().enumerate() {
-        if x.is_before(e) {
-            return i;
-        }
-    }
-    entries.len()
-}
-
-// Puts `x` first and moves each entry one place on; the last falls out.
-fn push_front<T: Copy>(places: &mut [T], x: T)
-    ensures { places.new ≡ take (length places.old) (x ∷ places.old) }
-{
-    let mut carried = x;
-    for e in places.iter_mut() {
-        let next = *e;
-        *e = carried;
-        carried = next;
-    }
+    entries
+        .iter()
+        .position(|e| x.is_before(e))
+        .unwrap_or(entries.len())
 }
 
 // Puts `x` at its place `at`; the entries from there on move one place on.
@@ -39,7 +25,8 @@ fn put<T: Entry>(places: &mut [T], len: usize, at: usize, x: T)
     requires place { Place T.before x (take len places.old) at }
     ensures { Put T.key T.before x len at places.old places.new }
 {
-    push_front(&mut places[at..len + 1], x);
+    places[at..len + 1].rotate_right(1);
+    places[at] = x;
 }
 
 // Brings the first entry behind the last, whence the others move up one place.

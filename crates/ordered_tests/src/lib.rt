@@ -20,7 +20,7 @@ pub fn earlier(one: Handed, two: Handed) -> Result<Option<Handed>, Full>
 #[cfg(test)]
 mod tests {
     use super::*;
-    use ordered::Entry;
+    use ordered::{Entry, Sorted};
     use records::{Action, Decided, Mask, Notice, Pair, Stamp};
 
     fn notice(dispatcher: u8, count: u16, vessel: u16) -> Notice {
@@ -212,5 +212,32 @@ mod tests {
         assert_eq!(rt; take_first(&mut places, 2), Some(decided(100, 1, 0, 1)));
         assert_eq!(rt; take_first(&mut places, 1), Some(decided(100, 1, 1, 3)));
         assert_eq!(rt; take_first(&mut places, 0), None);
+    }
+
+    // A list of three places in memory of its own: a fourth entry is refused, the first leaves, those of clock 20 stay.
+    #[test]
+    fn sorted_in_its_own_memory(rt: HostRuntime) {
+        let mut list: Sorted<Handed, 3> = Sorted::new();
+        assert_eq!(rt; list.take_first(), None);
+        assert_eq!(rt; list.insert(handed(20, 1, 5, 1)), Ok(0));
+        assert_eq!(rt; list.insert(handed(10, 1, 5, 2)), Ok(0));
+        assert_eq!(rt; list.insert(handed(20, 1, 5, 3)), Ok(2));
+        assert_eq!(rt; list.insert(handed(5, 1, 5, 4)), Err(Full));
+        assert_eq!(rt;
+            list.as_slice(),
+            [
+                handed(10, 1, 5, 2),
+                handed(20, 1, 5, 1),
+                handed(20, 1, 5, 3)
+            ]
+            .as_slice()
+        );
+        assert_eq!(rt; list.take_first(), Some(handed(10, 1, 5, 2)));
+        assert_eq!(rt; list.insert(handed(30, 1, 5, 5)), Ok(2));
+        list.retain(|e| e.clock == 20);
+        assert_eq!(rt;
+            list.as_slice(),
+            [handed(20, 1, 5, 1), handed(20, 1, 5, 3)].as_slice()
+        );
     }
 }

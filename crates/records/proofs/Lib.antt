@@ -1,3 +1,5 @@
+pub mod Bits
 pub mod MaskLaws
 pub mod Ranks
+pub mod Ports
 pub mod ReachLaws

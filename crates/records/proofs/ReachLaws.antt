@@ -1,5 +1,5 @@
 -- How a table fills, mask by mask, and why it is then sound. Assumes nothing.
-use Rattle.std.proofs.Common.{◌≡◌, ℕ, ◌+◌, ◌<◌, ◌≤◌, true, ◌≢◌, List, length, get_or, take, set, replicate, sym, ap, ◌∙◌, subst, inl, inr, ⊎_elim, arith}
+use Rattle.std.proofs.Common.{◌≡◌, ℕ, ◌+◌, ◌<◌, ◌≤◌, Bool, true, false, ◌≢◌, List, length, get_or, take, set, replicate, sym, ap, ◌∙◌, subst, inl, inr, ⊎_elim, arith, MatchBool}
 use Rattle.std.proofs.lemmas.List.{get_or-set_same, get_or-set_other, get_or_past, get_or-replicate, get_or-map, get_or-take, length-map, length-take-le, ext_get_or}
 use Rattle.std.proofs.lemmas.Bool.{both_ways, cases_lt, cases_eq}
 use Rattle.records.specs.declared.fault.TableFault.{TableFault}
@@ -10,8 +10,13 @@ use Rattle.records.specs.Reaching.{nobody, sends, Sound, Misnames, Refuses, Hold
 use Rattle.records.proofs.MaskLaws.{none_above, none_named}
 
 -- a byte that misnames nobody below 8 misnames nobody
-pub no_more : (ports p bits : ℕ) → bits < 256 → ((q : ℕ) → q < 8 → Misnames ports p bits q → ⊥) → (q : ℕ) → Misnames ports p bits q → ⊥
+no_more : (ports p bits : ℕ) → bits < 256 → ((q : ℕ) → q < 8 → Misnames ports p bits q → ⊥) → (q : ℕ) → Misnames ports p bits q → ⊥
 no_more ports p bits byte below q m = ⊎_elim (λ lt. below q lt m) (λ ge. both_ways (named bits q) (none_above bits q byte ge) m.0) (cases_lt q 8)
+
+-- so the eight ports tell whether it misnames any
+pub misnames_any : (ports p bits : ℕ) → bits < 256 → (r : Bool) → MatchBool r ((q : ℕ) × (q < 8) × Misnames ports p bits q) ((q : ℕ) → q < 8 → Misnames ports p bits q → ⊥) → MatchBool r ((q : ℕ) × Misnames ports p bits q) ((q : ℕ) → Misnames ports p bits q → ⊥)
+misnames_any ports p bits byte true (q, low, m) = (q, m)
+misnames_any ports p bits byte false none = no_more ports p bits byte none
 
 -- the first i masks are those of the bytes, misnaming nobody, and the others name nobody
 pub record Filled (bytes : List ℕ) (table : List Mask) (i : ℕ) : Type 0 where

@@ -13,13 +13,8 @@ impl Entry for Handed {
     ghost total = { total_then (λ x. x.clock) _ _ (total_then (λ x. x.notice.dispatcher) _ _ (total_by (λ x. x.notice.count))) };
 
     fn is_before(&self, other: &Self) -> bool {
-        if self.clock != other.clock {
-            return self.clock < other.clock;
-        }
-        if self.notice.dispatcher != other.notice.dispatcher {
-            return self.notice.dispatcher < other.notice.dispatcher;
-        }
-        self.notice.count < other.notice.count
+        let (mine, theirs) = (self.notice, other.notice);
+        (self.clock, mine.dispatcher, mine.count) < (other.clock, theirs.dispatcher, theirs.count)
     }
 }
 
@@ -31,6 +26,6 @@ impl Entry for Decided {
     ghost total = { total_then (λ x. x.stamp.pair.clock) _ _ (total_then (λ x. x.stamp.pair.step) _ _ (total_by (λ x. x.stamp.port))) };
 
     fn is_before(&self, other: &Self) -> bool {
-        self.stamp.is_before(other.stamp)
+        self.stamp < other.stamp
     }
 }

@@ -8,9 +8,9 @@ use crate::mask::Mask;
 #[derive(Clone, Copy, PartialEq, Eq, Debug)]
 pub enum TableFault {
     // fewer than 2 or more than 8 masks
-    WrongCount,
+    WrongCount = 1,
     // a mask names its own port, or one outside the table
-    WrongMask,
+    WrongMask = 2,
 }
 
 // A call on a net that is turned down.
@@ -56,36 +56,33 @@ pub enum NetFault {
 #[derive(Clone, Copy, PartialEq, Eq, Debug)]
 pub enum ReaderFault {
     // the stream is longer than 32,768 bytes
-    StreamTooLong,
+    StreamTooLong = 20,
     // one or two bytes follow a field, or the whole stream has fewer than three
-    LooseBytes,
+    LooseBytes = 21,
     // the tag is none of 1 to 6 and 16
-    UnknownTag,
+    UnknownTag = 22,
     // the first field has not tag 16, or a later one has it
-    MisplacedTag,
+    MisplacedTag = 23,
     // the length is not the tag's
-    WrongLength,
+    WrongLength = 24,
     // fewer bytes remain than the length says
-    MissingBytes,
+    MissingBytes = 25,
 }
 
 // A stream or a printed line that is not written.
 #[derive(Clone, Copy, PartialEq, Eq, Debug)]
 pub enum OutputFault {
     // the stream would be longer than 32,768 bytes
-    StreamTooLong,
+    StreamTooLong = 20,
     // the output memory is too short
-    MemoryTooShort,
+    MemoryTooShort = 26,
 }
 
 impl TableFault {
     pub fn number(self) -> u8
         ensures { result ≡ table_number self }
     {
-        match self {
-            TableFault::WrongCount => 1,
-            TableFault::WrongMask => 2,
-        }
+        self as u8
     }
 }
 
@@ -119,14 +116,7 @@ impl ReaderFault {
     pub fn number(self) -> u8
         ensures { result ≡ reader_number self }
     {
-        match self {
-            ReaderFault::StreamTooLong => 20,
-            ReaderFault::LooseBytes => 21,
-            ReaderFault::UnknownTag => 22,
-            ReaderFault::MisplacedTag => 23,
-            ReaderFault::WrongLength => 24,
-            ReaderFault::MissingBytes => 25,
-        }
+        self as u8
     }
 }
 
@@ -134,9 +124,6 @@ impl OutputFault {
     pub fn number(self) -> u8
         ensures { result ≡ output_number self }
     {
-        match self {
-            OutputFault::StreamTooLong => 20,
-            OutputFault::MemoryTooShort => 26,
-        }
+        self as u8
     }
 }

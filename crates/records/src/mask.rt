@@ -1,9 +1,9 @@
 // Sets of ports.
-ghost use Rattle.records.specs.Masks.{named};
-ghost use Rattle.std.specs.Prelude.{◌≡◌, ℕ};
+ghost use Rattle.records.specs.Masks.{named, without};
+ghost use Rattle.std.specs.Prelude.{◌≡◌, ℕ, not, ◌&&◌, ◌==◌};
 
 // Bit i, of value 2 to the power i, stands for port i.
-#[derive(Clone, Copy, PartialEq, Eq, Debug)]
+#[derive(Clone, Copy, PartialEq, Eq, Default, Debug)]
 pub struct Mask {
     pub bits: u8,
 }
@@ -14,5 +14,17 @@ impl Mask {
         ensures { result ≡ named self.bits port }
     {
         port < 8 && (self.bits >> port) % 2 == 1
+    }
+
+    // The mask of the other ports that it names.
+    pub fn without(self, port: u8) -> Mask
+        ensures value { result.bits ≡ without port self.bits }
+        ensures others { (q : ℕ) → named result.bits q ≡ (named self.bits q && not (q == port)) }
+    {
+        if self.names(port) {
+            let bits = self.bits ^ (1u8 << port);
+            return Mask { bits };
+        }
+        self
     }
 }

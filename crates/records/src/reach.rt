@@ -21,14 +21,7 @@ pub struct Reach {
 fn misnames(mask: Mask, port: usize, ports: usize) -> bool
     ensures { MatchBool result ((q : ℕ) × Misnames ports port mask.bits q) ((q : ℕ) → Misnames ports port mask.bits q → ⊥) }
 {
-    for q in 0..8u8 {
-        if mask.names(q) {
-            if q as usize == port || q as usize >= ports {
-                return true;
-            }
-        }
-    }
-    false
+    (0..8u8).any(|q| mask.names(q) && (q as usize == port || q as usize >= ports))
 }
 
 impl Reach {
@@ -64,11 +57,10 @@ impl Reach {
     pub fn mask(&self, port: u8) -> Mask
         ensures { result ≡ slice_index_or self.now.masks port nobody }
     {
-        if port < 8 {
-            self.masks[port as usize]
-        } else {
-            Mask { bits: 0 }
-        }
+        self.masks
+            .get(port as usize)
+            .copied()
+            .unwrap_or(Mask { bits: 0 })
     }
 
     // Whether port `from` can send to port `to`.

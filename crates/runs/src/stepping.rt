@@ -30,7 +30,7 @@ pub fn run_event<W: Wire, B: Board>(net: &mut Net<W, B>, event: Event) -> Result
             port, dispatcher, reading, mask, home, berth, action, vessel,
         )?),
         Event::Decide { port, number, cuts } => {
-            let mut working = [Decided::SPARE; 16];
+            let mut working = [Decided::default(); 16];
             let (notices, copies) = net.decide(port, number, cuts, &mut working)?;
             Answer::Batch { notices, copies }
         }

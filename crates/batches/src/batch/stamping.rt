@@ -41,7 +41,7 @@ impl Batch {
         if undecided.len() > 16 {
             return Err(BatchFault::TooMany);
         }
-        let mut notices = [Decided::SPARE; 16];
+        let mut notices = [Decided::default(); 16];
         let mut len = 0;
         let mut last = floor;
         for n in undecided {

@@ -14,7 +14,7 @@ impl Undecided {
         ensures { undecided_of result ≡ [] }
     {
         Undecided {
-            notices: [Handed::SPARE; 16],
+            notices: [Handed::default(); 16],
             len: 0,
         }
     }

@@ -24,7 +24,7 @@ impl Waiting {
         ensures { waiting_of result ≡ [] }
     {
         Waiting {
-            notices: [Decided::SPARE; 64],
+            notices: [Decided::default(); 64],
             len: 0,
         }
     }

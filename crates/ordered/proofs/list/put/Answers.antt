@@ -9,6 +9,7 @@ returns g c =
     let len = c.args.len in
     let at = c.args.at in
     let x = c.args.x in
-    let part = c.push_front.new.places in
+    let part = c.rotate_right.new.self in
     let le : at ≤ len = omega (arith, c.requires.place.within, length-take len old) in
-    put_in g.met.T.Entry.total x len old _ at c.requires.room c.requires.place (pushed_take old len at x c.requires.room le part c.push_front.ensures) (pushed_drop old len at x c.requires.room le part c.push_front.ensures)
+    let turned = c.rotate_right.ensures.after in
+    put_in g.met.T.Entry.total x len old _ at c.requires.room c.requires.place (pushed_take old len at x c.requires.room le part turned) (pushed_drop old len at x c.requires.room le part turned)
