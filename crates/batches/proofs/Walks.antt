@@ -1,8 +1,7 @@
 -- Loops over a list of which some pass: a turn, place by place. Assumes nothing.
-use Rattle.std.proofs.Common.{◌≡◌, ℕ, ◌+◌, ◌<◌, ◌≤◌, Bool, true, false, eqb, leb, List, ◌∷◌, length, get_or, drop, filter, sym, ap, ◌∙◌, arith}
-use Rattle.std.proofs.lemmas.List.{drop_more, get_or_past}
+use Rattle.std.proofs.Common.{◌≡◌, ℕ, ◌+◌, ◌<◌, Bool, true, false, List, ◌∷◌, length, get_or, drop, filter, ap, ◌∙◌}
+use Rattle.std.proofs.lemmas.List.{drop_more}
 use Rattle.std.proofs.lemmas.Bool.{cond-true, cond-false}
-use Rattle.std.proofs.lemmas.Bool.Decides.{nat_tests}
 use Rattle.records.specs.declared.notice.Action.TheVariants.{Take}
 use Rattle.records.specs.declared.notice.Notice.{Notice}
 use Rattle.records.specs.declared.notice.Handed.{Handed}
@@ -24,10 +23,3 @@ module _ {X : Type 0} (xs : List X) (i : ℕ) (lt : i < length xs) (p : X → Bo
 
   pub kept_not : p (get_or xs i d) ≡ false → filter p (drop i xs) ≡ filter p (drop (i + 1) xs)
   kept_not e = ap (filter p) (drop_more xs i d lt) ∙ cond-false (p (get_or xs i d)) (get_or xs i d ∷ filter p (drop (i + 1) xs)) (filter p (drop (i + 1) xs)) e
-
--- a dispatcher beyond the cuts has the cut 0
-pub no_cut : (cuts : List ℕ) (d n : ℕ) → length cuts ≡ 4 → 4 ≤ d → eqb n 0 ≡ leb n (get_or cuts d 0)
-no_cut cuts d n len le = zero_leb n ∙ ap (leb n) (sym (get_or_past cuts d 0 (omega arith)))
-  where
-    zero_leb : (n : ℕ) → eqb n 0 ≡ leb n 0
-    zero_leb n = grind (arith, nat_tests)

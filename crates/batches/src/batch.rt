@@ -1,19 +1,15 @@
 // A batch: the notices of a decide, with their stamps.
-ghost use Rattle.std.specs.Prelude.{◌≡◌, ◌≤◌, length};
-
+use ordered::Sorted;
 use records::notice::Decided;
 use records::stamp::Pair;
 
 pub mod stamping; // the stamping rule, and a batch stamped by it
 
-// The first `len` notices, by rising stamp, and the floor that they leave.
+// The notices, by rising stamp, and the floor that they leave.
 #[derive(Clone, Copy)]
 pub struct Batch {
-    notices: [Decided; 16],
-    len: usize,
+    notices: Sorted<Decided, 16>,
     floor: Option<Pair>,
-    ghost places: { length notices ≡ 16 },
-    ghost within: { len ≤ 16 },
 }
 
 // Why a batch is not stamped.

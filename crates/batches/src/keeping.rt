@@ -1,6 +1,6 @@
-// What a batch takes of the undecided notices, and what it leaves.
-ghost use Rattle.std.specs.Prelude.{◌≡◌, ◌≤◌, length, take};
-ghost use Rattle.model.specs.Batches.{within, left};
+// What a batch takes of the undecided notices.
+ghost use Rattle.std.specs.Prelude.{◌≡◌};
+ghost use Rattle.model.specs.Batches.{within};
 
 use records::notice::Handed;
 
@@ -8,26 +8,9 @@ use records::notice::Handed;
 pub fn is_within(notice: &Handed, cuts: &[u16; 4]) -> bool
     ensures { result ≡ within cuts.now notice.now }
 {
-    let dispatcher = notice.notice.dispatcher;
-    if dispatcher < 4 {
-        notice.notice.count <= cuts[dispatcher as usize]
-    } else {
-        notice.notice.count == 0
-    }
-}
-
-// Moves the notices above their cuts to the front, in their order, and tells how many they are.
-pub fn keep_left(notices: &mut [Handed], cuts: &[u16; 4]) -> usize
-    ensures kept { take result notices.new ≡ left cuts.now notices.old }
-    ensures few { result ≤ length notices.old }
-{
-    let mut k = 0;
-    for i in 0..notices.len() {
-        let n = notices[i];
-        if !is_within(&n, cuts) {
-            notices[k] = n;
-            k += 1;
-        }
-    }
-    k
+    let cut = cuts
+        .get(notice.notice.dispatcher as usize)
+        .copied()
+        .unwrap_or(0);
+    notice.notice.count <= cut
 }

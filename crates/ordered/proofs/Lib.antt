@@ -3,3 +3,4 @@ pub mod Keys
 pub mod Moves
 pub mod Retains
 pub mod Rises
+pub mod Sorts

@@ -1,11 +1,13 @@
 -- Counts by source, and the room that at most eight of each of eight ports leave. Assumes nothing.
-use Rattle.std.proofs.Common.{◌≡◌, ℕ, zero, suc, ◌+◌, ◌-◌, ◌*◌, ◌<◌, ◌≤◌, Bool, true, false, cond, eqb, ltb, List, [], ◌∷◌, length, take, Some, None, Ok, Err, Option, Result, sym, refl, ap, ◌∙◌, ⊎_elim, arith}
+use Rattle.std.proofs.Common.{◌≡◌, ℕ, zero, suc, ◌+◌, ◌*◌, ◌<◌, ◌≤◌, Bool, true, false, cond, eqb, ltb, List, [], ◌∷◌, length, Some, None, Option, sym, refl, ap, ◌∙◌, ⊎_elim, arith}
 use Rattle.std.proofs.lemmas.Bool.{cond-true, cond-false, cond_both, cases_eq, cases_Bool, eq-eqb, ne_eqb, lt-ltb, le-ltb, and_parts}
 use Rattle.std.proofs.lemmas.Bool.Decides.{nat_tests}
 use Rattle.ordered.specs.Orders.{all_pass, placed}
-use Rattle.ordered.specs.Lists.{Insertion, Put, Taken, Taking}
+use Rattle.ordered.specs.Sorted.{entries_of, TookFirst}
+use Rattle.ordered.specs.declared.entry.Entry.{Ghosts}
+use Rattle.ordered.specs.declared.sorted.Sorted.{Sorted}
 use Rattle.ordered.proofs.Rises.{all_placed}
-use Rattle.records.specs.Keys.{decided_before, decided_key}
+use Rattle.records.specs.Keys.{decided_before}
 use Rattle.records.specs.declared.notice.Decided.{Decided}
 use Rattle.model.specs.Batches.{count_from}
 
@@ -75,28 +77,28 @@ each_placed before x xs each room p =
     (λ (ne : x.stamp.port ≡ p → ⊥). omega (arith, sum, each p, cond-false {A = ℕ} (eqb x.stamp.port p) 1 0 (ne_eqb _ _ ne)))
     (cases_eq x.stamp.port p)
 
--- what insert did, where there was room
-pub put_from : {X E : Type 0} (key : X → List ℕ) (before : X → X → Bool) (x : X) (len : ℕ) (old new : List X) (r : Result ℕ E) → len < length old → Insertion key before x len old new r → (place : ℕ) × Put key before x len place old new
-put_from key before x len old new (Ok place) room i = (place, i)
-put_from key before x len old new (Err full) room i = absurd (omega (arith, i.0))
-
 -- what a waiting list keeps when a notice joins
-module _ (x : Decided) (len place : ℕ) (old new : List Decided) (put : Put decided_key decided_before x len place old new) where
-  pub known_joined : all_pass known (take len old) ≡ true → x.stamp.port < 8 → all_pass known (take (len + 1) new) ≡ true
-  known_joined h low = ap (all_pass known) put.entries ∙ all_placed decided_before x known (take len old) h (lt-ltb x.stamp.port 8 low)
+module _ (x : Decided) (old new : List Decided) (put : new ≡ placed decided_before x old) where
+  pub known_joined : all_pass known old ≡ true → x.stamp.port < 8 → all_pass known new ≡ true
+  known_joined h low = ap (all_pass known) put ∙ all_placed decided_before x known old h (lt-ltb x.stamp.port 8 low)
 
-  pub crowds_joined : ((p : ℕ) → count_from p (take len old) ≤ 8) → count_from x.stamp.port (take len old) < 8 → (p : ℕ) → count_from p (take (len + 1) new) ≤ 8
-  crowds_joined each room p = omega (arith, ap (count_from p) put.entries, each_placed decided_before x (take len old) each room p)
-
--- what take-first did, where there was one to take
-pub taken_from : {X : Type 0} (before : X → X → Bool) (len : ℕ) (old new : List X) (r : Option X) → 0 < len → len ≤ length old → Taking before len old new r → (x : X) × (r ≡ Some x) × Taken before x len old new
-taken_from before len old new (Some x) some within t = (x, refl, t)
-taken_from before len old new None some within t = absurd (⊎_elim (λ (e : len ≡ 0). omega arith) (λ (lt : length old < len). omega arith) t.0)
+  pub crowds_joined : ((p : ℕ) → count_from p old ≤ 8) → count_from x.stamp.port old < 8 → (p : ℕ) → count_from p new ≤ 8
+  crowds_joined each room p = omega (arith, ap (count_from p) put, each_placed decided_before x old each room p)
 
 -- what a waiting list keeps when its first leaves
-module _ (x : Decided) (len : ℕ) (old new : List Decided) (taken : Taken decided_before x len old new) where
-  pub known_left : all_pass known (take len old) ≡ true → all_pass known (take (len - 1) new) ≡ true
-  known_left h = (and_parts (known x) (all_pass known (take (len - 1) new)) (ap (all_pass known) (sym taken.entries) ∙ h)).1
+module _ (x : Decided) (old new : List Decided) (taken : old ≡ x ∷ new) where
+  pub known_left : all_pass known old ≡ true → all_pass known new ≡ true
+  known_left h = (and_parts (known x) (all_pass known new) (ap (all_pass known) (sym taken) ∙ h)).1
 
-  pub crowds_left : ((p : ℕ) → count_from p (take len old) ≤ 8) → (p : ℕ) → count_from p (take (len - 1) new) ≤ 8
-  crowds_left each p = omega (arith, each p, ap (count_from p) taken.entries, count_cons p x (take (len - 1) new))
+  pub crowds_left : ((p : ℕ) → count_from p old ≤ 8) → (p : ℕ) → count_from p new ≤ 8
+  crowds_left each p = omega (arith, each p, ap (count_from p) taken, count_cons p x new)
+
+-- what it keeps when its first is taken, if there is one
+module _ {order : Ghosts Decided} (old new : Sorted Decided 64 order) where
+  pub known_after : (r : Option Decided) → TookFirst old new r → all_pass known (entries_of old) ≡ true → all_pass known (entries_of new) ≡ true
+  known_after (Some x) e h = known_left x (entries_of old) (entries_of new) e h
+  known_after None e h = ap (λ s. all_pass known (entries_of s)) e.1 ∙ h
+
+  pub crowds_after : (r : Option Decided) → TookFirst old new r → ((p : ℕ) → count_from p (entries_of old) ≤ 8) → (p : ℕ) → count_from p (entries_of new) ≤ 8
+  crowds_after (Some x) e each p = crowds_left x (entries_of old) (entries_of new) e each p
+  crowds_after None e each p = omega (arith, each p, ap (λ s. count_from p (entries_of s)) e.1)

@@ -1,5 +1,5 @@
 -- What a dispatcher hands in. Assumes nothing.
-use Rattle.std.proofs.Common.{◌≡◌, ℕ, ◌+◌, ◌<◌, ◌≤◌, max, ltb, leb, length, get_or, None, Ok, Err, Result, refl, ◌∙◌, arith}
+use Rattle.std.proofs.Common.{◌≡◌, ℕ, ◌+◌, ◌<◌, ◌≤◌, max, ltb, leb, length, None, Ok, Err, Result, refl, ◌∙◌, arith}
 use Rattle.std.proofs.lemmas.Bool.{cond-false, le-ltb, lt-leb}
 use Rattle.ordered.specs.Orders.{placed}
 use Rattle.records.specs.Keys.{handed_before}
@@ -31,5 +31,5 @@ added x old new (Err f) room e = absurd (omega (arith, e.1))
 abbrev pub made : Port → ℕ → ℕ → ℕ → Mask → ℕ → ℕ → Action → ℕ → Handed
 made p d count clock to home berth action vessel = record { notice = record { source = p.own; dispatcher = d; count = count; to = to; home = home; berth = berth; action = action; vessel = vessel }; clock = clock }
 
-pub made_is : (p : Port) (d reading count clock : ℕ) (to : Mask) (home berth : ℕ) (action : Action) (vessel : ℕ) → count ≡ get_or p.given d 0 + 1 → clock ≡ max (get_or p.clocks d 0) reading → made p d count clock to home berth action vessel ≡ handed_of (port_view p) (handing_in p d reading to home berth action vessel)
+pub made_is : (p : Port) (d reading count clock : ℕ) (to : Mask) (home berth : ℕ) (action : Action) (vessel : ℕ) → count ≡ (port_view p).given d + 1 → clock ≡ max ((port_view p).clock d) reading → made p d count clock to home berth action vessel ≡ handed_of (port_view p) (handing_in p d reading to home berth action vessel)
 made_is p d reading count clock to home berth action vessel next e = λ i. made p d (next i) (e i) to home berth (action_same action i) vessel

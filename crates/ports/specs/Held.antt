@@ -1,6 +1,7 @@
 -- What a port's two lists hold, and whom they turn away. Assumes nothing.
-use Rattle.std.specs.Prelude.{◌≡◌, ℕ, ◌<◌, ◌≤◌, Bool, true, false, ◌||◌, List, [], ◌∷◌, length, take, Some, None, Ok, Err, Option, Result, nat_le, nat_lt}
+use Rattle.std.specs.Prelude.{◌≡◌, ℕ, ◌<◌, ◌≤◌, Bool, true, false, ◌||◌, List, [], ◌∷◌, length, Some, None, Ok, Err, Option, Result, nat_le, nat_lt}
 use Rattle.ordered.specs.Orders.{placed}
+use Rattle.ordered.specs.Sorted.{entries_of}
 use Rattle.records.specs.Keys.{handed_before, decided_before}
 use Rattle.records.specs.declared.fault.NetFault.{NetFault}
 use Rattle.records.specs.declared.fault.NetFault.TheVariants.{UndecidedFull, SourceWaitingFull}
@@ -12,10 +13,10 @@ use Rattle.ports.specs.declared.undecided.Undecided.{Undecided}
 use Rattle.ports.specs.declared.waiting.Waiting.{Waiting}
 
 abbrev pub undecided_of : Undecided → List Handed
-undecided_of u = take u.len u.notices
+undecided_of u = entries_of u.notices
 
 abbrev pub waiting_of : Waiting → List Decided
-waiting_of w = take w.len w.notices
+waiting_of w = entries_of w.notices
 
 -- the notice took its place among the undecided; or 16 were undecided, and nothing changed
 abbrev pub Adds : {U : Type 0} → Undecided → Undecided → Handed → Result U NetFault → Type 0

@@ -1,5 +1,5 @@
 -- What a port means, what it refuses, and what each call makes of it. Assumes nothing.
-use Rattle.std.specs.Prelude.{◌≡◌, ℕ, ◌+◌, Bool, true, false, not, ◌&&◌, ◌||◌, leb, List, [], length, Some, None, Ok, Err, Option, Result, ◌==◌, nat_le, nat_lt, slice_index, slice_index_or}
+use Rattle.std.specs.Prelude.{◌≡◌, ℕ, ◌+◌, Bool, true, false, not, ◌&&◌, ◌||◌, leb, List, [], map, length, Some, None, Ok, Err, Option, Result, ◌==◌, nat_le, nat_lt, slice_index, slice_index_or}
 use Rattle.records.specs.declared.mask.Mask.{Mask}
 use Rattle.records.specs.declared.notice.Action.{Action}
 use Rattle.records.specs.declared.notice.Action.TheVariants.{Take, Leave}
@@ -27,9 +27,9 @@ use Rattle.ports.specs.Held.{undecided_of, waiting_of, Lowest}
 abbrev pub port_view : Port → PortView
 port_view p = record {
   undecided = undecided_of p.undecided;
-  given = λ d. slice_index p.given d;
-  settled = λ d. slice_index p.settled d;
-  clock = λ d. slice_index p.clocks d;
+  given = λ d. slice_index (map (λ x. x.given) p.dispatchers) d;
+  settled = λ d. slice_index (map (λ x. x.settled) p.dispatchers) d;
+  clock = λ d. slice_index (map (λ x. x.clock) p.dispatchers) d;
   number = p.number;
   floor = p.floor;
   clearance = λ f. slice_index_or p.clearances f None;

@@ -2,12 +2,19 @@
 use ports::port::Port;
 use records::fault::NetFault;
 use records::mask::Mask;
-use records::notice::{Action, Decided, Notice, Record};
+use records::notice::{Action, Content, Decided, Notice, Record};
 use records::stamp::{Pair, Stamp};
 
 // A notice for these ports.
 pub fn hand(port: &mut Port, dispatcher: u8, reading: u32, bits: u8) -> Result<u16, NetFault> {
-    port.hand_in(dispatcher, reading, Mask { bits }, 0, 4, Action::Take, 7)
+    let content = Content {
+        to: Mask { bits },
+        home: 0,
+        berth: 4,
+        action: Action::Take,
+        vessel: 7,
+    };
+    port.hand_in(dispatcher, reading, content)
 }
 
 pub fn stamp(clock: u32, step: u16, port: u8) -> Stamp {

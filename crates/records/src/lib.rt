@@ -10,6 +10,6 @@ pub mod stamp; // pairs and stamps, by which notices are ordered
 
 pub use fault::{NetFault, OutputFault, ReaderFault, TableFault};
 pub use mask::Mask;
-pub use notice::{Action, Decided, Handed, Notice, Record};
+pub use notice::{Action, Content, Decided, HandIn, Handed, Notice, Record, UnknownAction};
 pub use reach::Reach;
 pub use stamp::{Pair, Stamp};

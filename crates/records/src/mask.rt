@@ -1,6 +1,6 @@
 // Sets of ports.
 ghost use Rattle.records.specs.Masks.{named, without};
-ghost use Rattle.std.specs.Prelude.{◌≡◌, ℕ, not, ◌&&◌, ◌==◌};
+ghost use Rattle.std.specs.Prelude.{◌≡◌, ℕ, not, ◌&&◌, ◌==◌, ◌≤◌, count_ones};
 
 // Bit i, of value 2 to the power i, stands for port i.
 #[derive(Clone, Copy, PartialEq, Eq, Default, Debug)]
@@ -14,6 +14,21 @@ impl Mask {
         ensures { result ≡ named self.bits port }
     {
         port < 8 && (self.bits >> port) % 2 == 1
+    }
+
+    // Whether it names no port.
+    pub fn is_empty(self) -> bool
+        ensures { result ≡ (self.bits == 0) }
+    {
+        self == Mask::default()
+    }
+
+    // How many ports it names.
+    pub fn count(self) -> usize
+        ensures value { result ≡ count_ones self.bits }
+        ensures few { result ≤ 8 }
+    {
+        self.bits.count_ones() as usize
     }
 
     // The mask of the other ports that it names.

@@ -45,6 +45,16 @@ pub struct HandIn {
     pub vessel: u16,
 }
 
+// What a notice says: the ports that must know, and what the vessel does at which berth of the port `home`.
+#[derive(Clone, Copy, PartialEq, Eq, Debug)]
+pub struct Content {
+    pub to: Mask,
+    pub home: u8,
+    pub berth: u8,
+    pub action: Action,
+    pub vessel: u16,
+}
+
 // What a dispatcher says. He is one of four at his port, `source`, and `count` is 1 for his first notice there, 2 for
 // his second, and so on. The notice is addressed to the ports in `to`, and is about one berth of the port `home`.
 #[derive(Clone, Copy, PartialEq, Eq, Default, Debug)]

@@ -5,6 +5,7 @@ ghost use Rattle.model.specs.Stamping.{next_pair, step_fits};
 
 use crate::batch::{Batch, BatchFault};
 use crate::keeping::is_within;
+use ordered::Sorted;
 use records::notice::{Decided, Handed};
 use records::stamp::{Pair, Stamp};
 
@@ -18,13 +19,11 @@ pub fn next_pair(floor: Option<Pair>, clock: u32) -> Option<Pair>
     if floor.clock < clock {
         return Some(Pair { clock, step: 0 });
     }
-    match floor.step.checked_add(1) {
-        Some(step) => Some(Pair {
-            clock: floor.clock,
-            step,
-        }),
-        None => None,
-    }
+    let step = floor.step.checked_add(1)?;
+    Some(Pair {
+        clock: floor.clock,
+        step,
+    })
 }
 
 impl Batch {
@@ -41,25 +40,26 @@ impl Batch {
         if undecided.len() > 16 {
             return Err(BatchFault::TooMany);
         }
-        let mut notices = [Decided::default(); 16];
-        let mut len = 0;
+        let mut notices = Sorted::new();
         let mut last = floor;
         for n in undecided {
             if is_within(n, cuts) {
                 let Some(pair) = next_pair(last, n.clock) else {
                     return Err(BatchFault::StepUsedUp);
                 };
-                notices[len] = Decided {
-                    notice: n.notice,
-                    stamp: Stamp { pair, port },
-                };
+                let stamp = Stamp { pair, port };
+                // it is above those stamped before, and there are fewer than 16
+                notices
+                    .insert(Decided {
+                        notice: n.notice,
+                        stamp,
+                    })
+                    .unwrap();
                 last = Some(pair);
-                len += 1;
             }
         }
         Ok(Batch {
             notices,
-            len,
             floor: last,
         })
     }
@@ -68,7 +68,7 @@ impl Batch {
     pub fn list(&self) -> &[Decided]
         ensures { result.now ≡ batch_of self.now }
     {
-        &self.notices[0..self.len]
+        self.notices.as_slice()
     }
 
     // The floor that they leave.

@@ -12,10 +12,7 @@ impl Port {
     pub fn clearance(&self, reading: u32) -> Result<Pair, NetFault>
         ensures { Clears (port_view self.now) reading result }
     {
-        match next_pair(self.floor, reading) {
-            Some(pair) => Ok(pair),
-            None => Err(NetFault::StepUsedUp),
-        }
+        next_pair(self.floor, reading).ok_or(NetFault::StepUsedUp)
     }
 
     // The pair is stamped as a clearance: it is the floor from then on.

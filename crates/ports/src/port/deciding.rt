@@ -24,7 +24,7 @@ fn join(waiting: &mut Waiting, notices: &[Decided], port: u8)
 {
     for d in notices {
         if d.notice.to.names(port) {
-            let _ = waiting.add(*d);
+            waiting.add(*d).unwrap();
         }
     }
 }
@@ -34,12 +34,10 @@ impl Port {
     fn cuts_fit(&self, cuts: &[u16; 4]) -> bool
         ensures { result ≡ cuts_fit (port_view self.now) cuts.now }
     {
-        for d in 0..4 {
-            if cuts[d] < self.settled[d] || self.given[d] < cuts[d] {
-                return false;
-            }
-        }
-        true
+        self.dispatchers
+            .iter()
+            .zip(cuts)
+            .all(|(d, cut)| d.allows(*cut))
     }
 
     // What the port would decide: the batch of this number, up to these cuts.
@@ -70,7 +68,13 @@ impl Port {
         let own = self.own;
         join(&mut self.waiting, batch.list(), own);
         self.undecided.keep(cuts);
-        self.settled = *cuts;
+        let [a, b, c, d] = self.dispatchers;
+        self.dispatchers = [
+            a.settling(cuts[0]),
+            b.settling(cuts[1]),
+            c.settling(cuts[2]),
+            d.settling(cuts[3]),
+        ];
         self.floor = batch.floor();
         self.number += 1;
         Ok(batch)

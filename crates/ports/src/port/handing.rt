@@ -5,8 +5,7 @@ ghost use Rattle.ports.specs.Ports.{handing_in, HandsIn};
 
 use crate::port::Port;
 use records::fault::NetFault;
-use records::mask::Mask;
-use records::notice::{Action, Handed, Notice};
+use records::notice::{Content, Handed, Notice};
 
 // The count behind the last one, of which there is none behind 65,535.
 fn next_count(last: u16) -> Option<u16>
@@ -28,38 +27,34 @@ impl Port {
         &mut self,
         dispatcher: u8,
         reading: u32,
-        to: Mask,
-        home: u8,
-        berth: u8,
-        action: Action,
-        vessel: u16,
+        content: Content,
     ) -> Result<u16, NetFault>
-        ensures { HandsIn self.old self.new (handing_in self.old dispatcher reading to home berth action vessel) result }
+        ensures { HandsIn self.old self.new (handing_in self.old dispatcher reading content.to content.home content.berth content.action content.vessel) result }
     {
         if dispatcher > 3 {
             return Err(NetFault::NoSuchDispatcher);
         }
         let at = dispatcher as usize;
-        let Some(count) = next_count(self.given[at]) else {
+        let him = self.dispatchers[at];
+        let Some(count) = next_count(him.given()) else {
             return Err(NetFault::CountUsedUp);
         };
         if self.undecided.list().len() >= 16 {
             return Err(NetFault::UndecidedFull);
         }
-        let clock = clock_for(self.clocks[at], reading);
+        let clock = clock_for(him.clock(), reading);
         let notice = Notice {
             source: self.own,
             dispatcher,
             count,
-            to,
-            home,
-            berth,
-            action,
-            vessel,
+            to: content.to,
+            home: content.home,
+            berth: content.berth,
+            action: content.action,
+            vessel: content.vessel,
         };
-        let _ = self.undecided.add(Handed { notice, clock });
-        self.given[at] = count;
-        self.clocks[at] = clock;
+        self.undecided.add(Handed { notice, clock }).unwrap();
+        self.dispatchers[at] = him.handing(count, clock);
         Ok(count)
     }
 }

@@ -3,6 +3,7 @@ ghost use Rattle.std.specs.Prelude.{◌≡◌, ◌%◌};
 ghost use Rattle.model.specs.Views.{fresh};
 ghost use Rattle.ports.specs.Ports.{port_view};
 
+use crate::dispatcher::Dispatcher;
 use crate::port::Port;
 use crate::undecided::Undecided;
 use crate::waiting::Waiting;
@@ -16,9 +17,7 @@ impl Port {
         Port {
             own: own % 8,
             undecided: Undecided::new(),
-            given: [0; 4],
-            settled: [0; 4],
-            clocks: [0; 4],
+            dispatchers: [Dispatcher::new(); 4],
             number: 0,
             floor: None,
             clearances: [None; 8],

@@ -44,8 +44,8 @@ impl Port {
         ensures { result.bits ≡ holders_of reach.now.masks self.now.own (port_view self.now) pair }
     {
         let mut bits = 0;
-        for f in 0..8u8 {
-            if reach.sends(f, self.own) & holds(self.clearances[f as usize], pair) {
+        for (f, clearance) in self.clearances.iter().enumerate() {
+            if reach.sends(f as u8, self.own) & holds(*clearance, pair) {
                 bits += 1u8 << f;
             }
         }
@@ -56,10 +56,8 @@ impl Port {
     pub fn release(&mut self) -> Option<Decided>
         ensures { Releases self.old self.new result }
     {
-        let Some(notice) = self.lowest() else {
-            return None;
-        };
-        let _ = self.waiting.take_lowest();
+        let notice = self.lowest()?;
+        self.waiting.take_lowest();
         self.floor = raised(self.floor, notice.stamp.pair);
         Some(notice)
     }

@@ -4,8 +4,8 @@ ghost use Rattle.ports.specs.Held.{undecided_of, Adds};
 ghost use Rattle.std.specs.Prelude.{◌≡◌, []};
 
 use crate::undecided::Undecided;
-use batches::keeping::keep_left;
-use ordered::insert;
+use batches::keeping::is_within;
+use ordered::{Full, Sorted};
 use records::fault::NetFault;
 use records::notice::Handed;
 
@@ -14,8 +14,7 @@ impl Undecided {
         ensures { undecided_of result ≡ [] }
     {
         Undecided {
-            notices: [Handed::default(); 16],
-            len: 0,
+            notices: Sorted::new(),
         }
     }
 
@@ -23,26 +22,23 @@ impl Undecided {
     pub(crate) fn list(&self) -> &[Handed]
         ensures { result.now ≡ undecided_of self.now }
     {
-        &self.notices[0..self.len]
+        self.notices.as_slice()
     }
 
     // Puts the notice in its place; where 16 are undecided it is refused.
     pub(crate) fn add(&mut self, notice: Handed) -> Result<(), NetFault>
         ensures { Adds self.old self.new notice result }
     {
-        if self.len == 16 {
-            return Err(NetFault::UndecidedFull);
+        match self.notices.insert(notice) {
+            Ok(_) => Ok(()),
+            Err(Full) => Err(NetFault::UndecidedFull),
         }
-        let _ = insert(&mut self.notices, self.len, notice);
-        self.len += 1;
-        Ok(())
     }
 
     // The batch leaves: only the notices above their dispatchers' cuts stay.
     pub(crate) fn keep(&mut self, cuts: &[u16; 4])
         ensures { undecided_of self.new ≡ left cuts.now (undecided_of self.old) }
     {
-        let len = self.len;
-        self.len = keep_left(&mut self.notices[0..len], cuts);
+        self.notices.retain(|n| !is_within(n, cuts));
     }
 }

@@ -6,26 +6,16 @@ ghost use Rattle.std.specs.Prelude.{◌≡◌, [], None};
 
 use crate::waiting::Waiting;
 use batches::counting::count_from;
-use ordered::{insert, take_first};
+use ordered::Sorted;
 use records::fault::NetFault;
 use records::notice::Decided;
-
-fn first(notices: &[Decided]) -> Option<Decided>
-    ensures { Lowest notices.now result }
-{
-    if notices.len() == 0 {
-        return None;
-    }
-    Some(notices[0])
-}
 
 impl Waiting {
     pub(crate) fn new() -> Waiting
         ensures { waiting_of result ≡ [] }
     {
         Waiting {
-            notices: [Decided::default(); 64],
-            len: 0,
+            notices: Sorted::new(),
         }
     }
 
@@ -33,7 +23,7 @@ impl Waiting {
     pub(crate) fn list(&self) -> &[Decided]
         ensures { result.now ≡ waiting_of self.now }
     {
-        &self.notices[0..self.len]
+        self.notices.as_slice()
     }
 
     // How many of the source wait.
@@ -51,8 +41,8 @@ impl Waiting {
         if source > 7 || self.count_from(source) >= 8 {
             return Err(NetFault::SourceWaitingFull);
         }
-        let _ = insert(&mut self.notices, self.len, notice);
-        self.len += 1;
+        // at most seven of its port and eight of each other wait: there is a place
+        self.notices.insert(notice).unwrap();
         Ok(())
     }
 
@@ -60,7 +50,7 @@ impl Waiting {
     pub(crate) fn lowest(&self) -> Option<Decided>
         ensures { Lowest (waiting_of self.now) result }
     {
-        first(self.list())
+        self.list().first().copied()
     }
 
     // The lowest leaves.
@@ -69,11 +59,8 @@ impl Waiting {
         ensures after { waiting_of self.new ≡ rest (waiting_of self.old) }
         ensures none { result ≡ None → self.new ≡ self.old }
     {
-        if self.len == 0 {
-            return None;
-        }
-        let lowest = take_first(&mut self.notices, self.len);
-        self.len -= 1;
-        lowest
+        let lowest = self.lowest()?;
+        self.notices.take_first();
+        Some(lowest)
     }
 }

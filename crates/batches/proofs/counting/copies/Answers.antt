@@ -1,13 +1,10 @@
-use Rattle.std.proofs.Common.{ap, arith}
-use Rattle.std.proofs.lemmas.List.{drop_all}
-use Rattle.model.specs.Batches.{copies_of}
-use Rattle.batches.proofs.Counts.{copies_more}
+use Rattle.std.proofs.Common.{◌≤◌, ◌^◌, length, arith, rules}
+use Rattle.std.proofs.lemmas.Iterator.{YieldsList-from_slice}
+use Rattle.std.proofs.lemmas.Iterator.Adapters.{fits_from_length, at_most_from_yields_List}
 use Rattle.batches.proofs.counting.copies.Goals as goal
 
-pub loop-d-preserved : goal.loop-d-preserved
-loop-d-preserved c =
-    let more = copies_more c.args.port c.args.notices.now c.loop-d.d-index c.loop-d-test.true in
-    (omega (arith, c.others-n.ensures.few), omega (arith, c.others-n.ensures.value, c.loop-d.invariant.1))
-
-pub returns : goal.returns
-returns c = omega (arith, c.loop-d.invariant.1, ap (copies_of c.args.port) (drop_all c.loop-d.d-index c.args.notices.now c.loop-d-test.false))
+-- at most eight for each notice, and a notice is longer than eight bytes
+pub sum-requires-clause-fits : goal.sum-requires-clause-fits
+sum-requires-clause-fits c =
+    let few : length c.args.notices.now ≤ 2 ^ 60 = omega (arith, c.iter.ensures.bound) in
+    fits_from_length _ _ (2 ^ 60) (2 ^ 64) (at_most_from_yields_List (YieldsList-from_slice c.args.notices.now (cc)) few) c.map.ensures.closure (omega arith) (λ x r q k. search rules)

@@ -1,11 +1,12 @@
-use Rattle.std.proofs.Common.{◌≡◌, ◌≤◌, length, drop}
+use Rattle.std.proofs.Common.{◌≤◌, length, drop}
+use Rattle.ordered.specs.Sorted.{entries_of}
 use Rattle.model.specs.Batches.{batch}
 use Rattle.model.specs.Stamping.{stamped}
-use Rattle.batches.proofs.Stampings.{Going}
+use Rattle.batches.proofs.Stampings.{AtMost, Going}
 use Rattle.batches.proofs.batch.Batch.stamp.Given as goal
 
 abbrev pub invariant-loop-n : goal.invariant-loop-n
 invariant-loop-n l =
-    (l.len ≤ l.n-index)
-    × (length l.notices ≡ 16)
-    × Going l.port l.initial.last (stamped l.port l.initial.last (batch l.cuts l.undecided)) l.last l.notices l.len (batch l.cuts (drop l.n-index l.undecided))
+    (length (entries_of l.notices) ≤ l.n-index)
+    × AtMost l.last (entries_of l.notices)
+    × Going l.port l.fn.floor (stamped l.port l.fn.floor (batch l.cuts l.undecided)) l.last (entries_of l.notices) (batch l.cuts (drop l.n-index l.undecided))

@@ -1,27 +1,15 @@
-use Rattle.std.proofs.Common.{◌≡◌, ℕ, Bool, true, ◌&&◌, leb, List, get_or, sym, subst, arith}
-use Rattle.model.specs.Lists.{every}
-use Rattle.std.proofs.lemmas.Bool.{and_from, and_left, and_right, le-leb, lt-leb}
-use Rattle.ports.specs.declared.port.Port.{Port}
-use Rattle.ports.proofs.Cuts.{every_more, every_not}
+use Rattle.std.proofs.Common.{ℕ, Bool, ◌&&◌, leb, ◌∙◌, rules}
+use borrow.Author.Tests.{tests}
+use Rattle.std.proofs.lemmas.Iterator.{YieldsList-from_slice, YieldsList-from_zip}
+use Rattle.std.proofs.lemmas.Iterator.Search.{all_from_yields_List}
+use Rattle.ports.specs.declared.dispatcher.Dispatcher.{Dispatcher}
+use Rattle.ports.proofs.Dispatchers.{fits_each}
 use Rattle.ports.proofs.port.Port.cuts_fit.Goals as goal
-
-abbrev test : Port → List ℕ → ℕ → Bool
-test p cuts d = leb (get_or p.settled d 0) (get_or cuts d 0) && leb (get_or cuts d 0) (get_or p.given d 0)
-
-pub returns-then-cuts-d : goal.returns-then-cuts-d
-returns-then-cuts-d c =
-    let p = c.args.self.now in
-    let cuts = c.args.cuts.now in
-    let d = c.loop-d.d in
-    sym (every_not (test p cuts) 4 d c.loop-d-test.true (elim c.then-cuts-d.branch [
-      | goal.then-cuts-d-via-then-cuts-d w ↦ and_left _ _ (lt-leb _ _ w.if-cuts-d.true)
-      | goal.then-cuts-d-via-else-cuts-d+then-self-d w ↦ and_right _ _ (lt-leb _ _ w.if-self-d.true)
-    ]))
-
-pub loop-d-preserved : goal.loop-d-preserved
-loop-d-preserved c = every_more (test c.args.self.now c.args.cuts.now) c.loop-d.d c.loop-d.invariant (and_from _ _ (le-leb _ _ c.if-cuts-d.false) (le-leb _ _ c.if-self-d.false))
 
 pub returns : goal.returns
 returns c =
-    let four : c.loop-d.d ≡ 4 = omega arith in
-    sym (subst (λ n. every n (test c.args.self.now c.args.cuts.now) ≡ true) four c.loop-d.invariant)
+    let p = c.args.self.now in
+    let cuts = c.args.cuts.now in
+    let test : Dispatcher × ℕ → Bool = λ x. leb x.0.settled x.1 && leb x.1 x.0.given in
+    all_from_yields_List test c.all.new.self _ c.all.result c.all.ensures.ran (YieldsList-from_zip (YieldsList-from_slice p.dispatchers (cc)) (YieldsList-from_slice cuts (cc))) (λ x b q k. search (rules, tests))
+    ∙ fits_each p.dispatchers cuts p.four c.told-cuts
