@@ -5,6 +5,7 @@ pub mod Inv
 pub mod Carry
 pub mod Stamp
 pub mod Clear
+pub mod Every
 pub mod Fetch
 pub mod Release
 pub mod Batch

@@ -4,7 +4,7 @@ use Rattle.std.proofs.lemmas.List.{set-get_or}
 use Rattle.std.proofs.lemmas.Bool.{not-false, or_cases, or_parts, eqb-true}
 use Rattle.records.specs.declared.fault.NetFault.{NetFault}
 use Rattle.records.specs.declared.fault.NetFault.TheVariants.{NoSuchPort, NoSuchDispatcher, WrongContent, WrongDestinations}
-use Rattle.records.specs.declared.notice.Action.{Action}
+use Rattle.records.specs.declared.notice.HandIn.{HandIn as Said}
 use Rattle.wires.specs.Lines.{Lines}
 use Rattle.boards.specs.Rules.{Rule, Vessels}
 use Rattle.model.specs.Calls.{HandIn, hand_in, action_of}
@@ -38,10 +38,10 @@ fit_action t home berth action vessel e =
     not-false (eqb action 1 || eqb action 2) (or_parts (not (eqb action 1 || eqb action 2)) (eqb vessel 0) rest).0
 
 -- the call on the port is the call on the net
-pub same_call : (t : Table) (p : Port) (port dispatcher reading to home berth action vessel : ℕ) (a : Action) → p.own ≡ port → a ≡ action_of action → wrong_content t home berth action vessel ≡ false → handing_in p dispatcher reading (record { bits = to }) home berth a vessel ≡ hand_in_call port dispatcher reading to home berth action vessel
-same_call t p port dispatcher reading to home berth action vessel a own is e =
-    ap (λ o. hand_in_call o dispatcher reading to home berth (action_number a) vessel) own
-    ∙ ap (λ n. hand_in_call port dispatcher reading to home berth n vessel) (ap action_number is ∙ same_action action (fit_action t home berth action vessel e))
+pub same_call : (t : Table) (p : Port) (x : Said) → p.own ≡ x.port → wrong_content t x.home x.berth x.action x.vessel ≡ false → handing_in p x.dispatcher x.reading (record { bits = x.mask }) x.home x.berth (action_of x.action) x.vessel ≡ hand_in_call x
+same_call t p x own e =
+    ap (λ o. let y : HandIn = record { port = o; dispatcher = x.dispatcher; reading = x.reading; to = x.mask; home = x.home; berth = x.berth; action = action_number (action_of x.action); vessel = x.vessel } in y) own
+    ∙ ap (λ n. let y : HandIn = record { port = x.port; dispatcher = x.dispatcher; reading = x.reading; to = x.mask; home = x.home; berth = x.berth; action = n; vessel = x.vessel } in y) (same_action x.action (fit_action t x.home x.berth x.action x.vessel e))
 
 -- ---- the faults
 

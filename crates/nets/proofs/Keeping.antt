@@ -1,6 +1,8 @@
 -- How a call's promise follows from what it did, and the tests of a table. Assumes nothing.
-use Rattle.std.proofs.Common.{◌≡◌, ℕ, ◌<◌, Bool, true, false, ◌||◌, ltb, Some, Option, sym, refl, ap, ◌∙◌, arith}
+use Rattle.std.proofs.Common.{◌≡◌, ℕ, ◌<◌, Bool, true, false, ◌||◌, ltb, Some, Err, Option, Result, sym, refl, ap, ◌∙◌, arith}
 use Rattle.std.proofs.lemmas.Bool.{cond-true, cond-false, ltb-true, not-false, or_parts}
+use Rattle.std.proofs.lemmas.Result.{err_from_is_err_and}
+use Rattle.std.specs.Result.{IsErrAnd}
 use Rattle.records.specs.declared.reach.Reach.{Reach}
 use Rattle.records.specs.declared.fault.NetFault.{NetFault}
 use Rattle.boards.specs.Rules.{Rule}
@@ -21,6 +23,10 @@ module _ {depth : ℕ} {rule : Rule} where
 
   pub kept_after : {v w : View} {e : Told} → ((h : History) → Lived depth rule h v → Step depth rule v e w) → KeptAfter depth rule v e w
   kept_after s h l = (s h l, lives_on l (s h l))
+
+-- a fault that `?` hands on
+pub handed_on : {T E : Type 0} {f : E} (r : Result T E) → IsErrAnd r (λ y. y ≡ f) → r ≡ Err f
+handed_on r e = let p = err_from_is_err_and r e in p.1 ∙ ap Err p.2
 
 -- a fault whose test passes, and one whose test does not
 pub stops : (f : NetFault) (b : Bool) (next : Option NetFault) → b ≡ true → (f when b else next) ≡ Some f

@@ -1,11 +1,18 @@
 -- What is handed in, as the call's eight numbers. Assumes nothing.
 use Rattle.std.specs.Prelude.{ℕ, Bool, not, ◌||◌, ◌==◌, nat_lt}
 use Rattle.records.specs.Masks.{named}
-use Rattle.model.specs.Calls.{HandIn}
+use Rattle.records.specs.declared.notice.Content.{Content}
+use Rattle.records.specs.declared.notice.HandIn.{HandIn as Said}
+use Rattle.model.specs.Calls.{HandIn, action_of}
 use Rattle.model.specs.Views.{Table, outside, sends}
 
-abbrev pub hand_in_call : ℕ → ℕ → ℕ → ℕ → ℕ → ℕ → ℕ → ℕ → HandIn
-hand_in_call port dispatcher reading to home berth action vessel = record { port = port; dispatcher = dispatcher; reading = reading; to = to; home = home; berth = berth; action = action; vessel = vessel }
+-- the call of the rules
+abbrev pub hand_in_call : Said → HandIn
+hand_in_call x = record { port = x.port; dispatcher = x.dispatcher; reading = x.reading; to = x.mask; home = x.home; berth = x.berth; action = x.action; vessel = x.vessel }
+
+-- what the notice says
+abbrev pub content_of : Said → Content
+content_of x = record { to = record { bits = x.mask }; home = x.home; berth = x.berth; action = action_of x.action; vessel = x.vessel }
 
 -- home outside the table, berth above 15, action neither 1 nor 2, or vessel 0
 abbrev pub wrong_content : Table → ℕ → ℕ → ℕ → ℕ → Bool

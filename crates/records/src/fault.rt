@@ -1,8 +1,10 @@
 // Why a call is turned down: an enum for each part that refuses, in checking order, with the number of each case.
 ghost use Rattle.records.specs.Numbers.{table_number, net_number, reader_number, output_number};
+ghost use Rattle.records.specs.declared.fault.NetFault.TheVariants.{WrongContent};
 ghost use Rattle.std.specs.Prelude.{◌≡◌};
 
 use crate::mask::Mask;
+use crate::notice::UnknownAction;
 
 // A reach table that cannot be.
 #[derive(Clone, Copy, PartialEq, Eq, Debug)]
@@ -76,6 +78,14 @@ pub enum OutputFault {
     StreamTooLong = 20,
     // the output memory is too short
     MemoryTooShort = 26,
+}
+
+impl From<UnknownAction> for NetFault {
+    ghost from_gives = { λ _ fault. fault ≡ WrongContent };
+
+    fn from(_action: UnknownAction) -> NetFault {
+        NetFault::WrongContent
+    }
 }
 
 impl TableFault {

@@ -22,15 +22,9 @@ impl<W: Wire, B: Board> Net<W, B> {
             return Err(NetFault::NoSuchPort);
         }
         let at = port as usize;
-        let pair = match self.ports[at].clearance(reading) {
-            Ok(pair) => pair,
-            Err(fault) => return Err(fault),
-        };
+        let pair = self.ports[at].clearance(reading)?;
         let mask = self.reach.mask(port);
-        match send_clearance(&mut self.wire, mask, Stamp { pair, port }) {
-            Ok(()) => {}
-            Err(fault) => return Err(fault),
-        }
+        send_clearance(&mut self.wire, mask, Stamp { pair, port })?;
         self.ports[at].clear(pair);
         Ok(pair)
     }

@@ -44,10 +44,7 @@ impl<W: Wire, B: Board> Net<W, B> {
             return Err(NetFault::WorkingListShort);
         }
         let at = port as usize;
-        let batch = match self.ports[at].plan(number, &cuts) {
-            Ok(batch) => batch,
-            Err(fault) => return Err(fault),
-        };
+        let batch = self.ports[at].plan(number, &cuts)?;
         let notices = batch.list();
         if !has_room(&self.wire, port, notices) {
             return Err(NetFault::LineFull);

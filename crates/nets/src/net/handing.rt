@@ -1,17 +1,18 @@
 // Handing in.
-ghost use Rattle.model.specs.Calls.{action_of, hand_in};
+ghost use Rattle.model.specs.Calls.{hand_in};
 ghost use Rattle.model.specs.Histories.{handed, refused};
 ghost use Rattle.model.specs.Refusals.{in_reach};
-ghost use Rattle.nets.specs.Handing.{addressed, hand_in_call, wrong_content};
+ghost use Rattle.nets.specs.Handing.{addressed, content_of, hand_in_call, wrong_content};
 ghost use Rattle.nets.specs.Promises.{Kept};
 ghost use Rattle.nets.specs.Views.{table_of, view, SameNet};
-ghost use Rattle.std.specs.Prelude.{◌≡◌, MatchResult, OnErr, nat_lt};
+ghost use Rattle.records.specs.declared.fault.NetFault.TheVariants.{WrongContent};
+ghost use Rattle.std.specs.Prelude.{◌≡◌, true, false, MatchResult, OnErr, nat_lt};
 
 use crate::net::Net;
 use boards::board::Board;
 use records::fault::NetFault;
 use records::mask::Mask;
-use records::notice::Action;
+use records::notice::{Action, Content, HandIn};
 use wires::wire::Wire;
 
 // Whether the number is none of a port's four dispatchers, 0 to 3.
@@ -21,23 +22,22 @@ fn beyond_four(dispatcher: u8) -> bool
     dispatcher > 3
 }
 
-// 1 take, 2 leave; other numbers are refused before.
-fn action_of(number: u8) -> Action
-    ensures { result ≡ action_of number }
-{
-    if number == 1 {
-        Action::Take
-    } else {
-        Action::Leave
-    }
-}
-
 impl<W, B> Net<W, B> {
-    // Whether no notice can be about this: home outside the table, berth above 15, action neither 1 nor 2, or vessel 0.
-    fn misdescribes(&self, home: u8, berth: u8, action: u8, vessel: u16) -> bool
-        ensures { result ≡ wrong_content (table_of self.now.reach) home berth action vessel }
+    // What the notice says. None can be about this: home outside the table, berth above 15, action neither 1 nor 2, or
+    // vessel 0.
+    fn content(&self, said: HandIn) -> Result<Content, NetFault>
+        ensures { MatchResult result (λ content. (wrong_content (table_of self.now.reach) said.home said.berth said.action said.vessel ≡ false) × (content ≡ content_of said)) (λ f. (f ≡ WrongContent) × (wrong_content (table_of self.now.reach) said.home said.berth said.action said.vessel ≡ true)) }
     {
-        self.lacks(home) || berth > 15 || !(action == 1 || action == 2) || vessel == 0
+        if self.lacks(said.home) || said.berth > 15 || said.vessel == 0 {
+            return Err(NetFault::WrongContent);
+        }
+        Ok(Content {
+            to: Mask { bits: said.mask },
+            home: said.home,
+            berth: said.berth,
+            action: Action::try_from(said.action)?,
+            vessel: said.vessel,
+        })
     }
 
     // Whether the port's notice may go to another port or to itself, or the mask does not name that one.
@@ -51,47 +51,28 @@ impl<W, B> Net<W, B> {
     fn in_reach(&self, port: u8, mask: Mask) -> bool
         ensures { result ≡ in_reach (table_of self.now.reach) port mask.bits }
     {
-        for to in 0..8u8 {
-            if !self.may_name(port, mask, to) {
-                return false;
-            }
-        }
-        true
+        (0..8u8).all(|to| self.may_name(port, mask, to))
     }
 }
 
 impl<W: Wire, B: Board> Net<W, B> {
     // A dispatcher of the port hands a notice in; the answer is its count.
-    pub fn hand_in(
-        &mut self,
-        port: u8,
-        dispatcher: u8,
-        reading: u32,
-        mask: u8,
-        home: u8,
-        berth: u8,
-        action: u8,
-        vessel: u16,
-    ) -> Result<u16, NetFault>
-        ensures kept { MatchResult result (λ count. Kept W.depth B.rule (view W.line B.shown self.old) (handed (hand_in_call port dispatcher reading mask home berth action vessel) count) (view W.line B.shown self.new)) (λ f. Kept W.depth B.rule (view W.line B.shown self.old) (refused (hand_in (hand_in_call port dispatcher reading mask home berth action vessel)) f) (view W.line B.shown self.new)) }
+    pub fn hand_in(&mut self, said: HandIn) -> Result<u16, NetFault>
+        ensures kept { MatchResult result (λ count. Kept W.depth B.rule (view W.line B.shown self.old) (handed (hand_in_call said) count) (view W.line B.shown self.new)) (λ f. Kept W.depth B.rule (view W.line B.shown self.old) (refused (hand_in (hand_in_call said)) f) (view W.line B.shown self.new)) }
         ensures same { OnErr result (SameNet self.old self.new) }
     {
-        if self.lacks(port) {
+        if self.lacks(said.port) {
             return Err(NetFault::NoSuchPort);
         }
-        if beyond_four(dispatcher) {
+        if beyond_four(said.dispatcher) {
             return Err(NetFault::NoSuchDispatcher);
         }
-        if self.misdescribes(home, berth, action, vessel) {
-            return Err(NetFault::WrongContent);
-        }
-        let to = Mask { bits: mask };
-        if (mask == 0) | !self.in_reach(port, to) {
+        let content = self.content(said)?;
+        if content.to.is_empty() | !self.in_reach(said.port, content.to) {
             return Err(NetFault::WrongDestinations);
         }
-        let action = action_of(action);
-        let at = port as usize;
+        let at = said.port as usize;
         let ports = &mut self.ports;
-        ports[at].hand_in(dispatcher, reading, to, home, berth, action, vessel)
+        ports[at].hand_in(said.dispatcher, said.reading, content)
     }
 }

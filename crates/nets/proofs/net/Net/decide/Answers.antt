@@ -9,7 +9,7 @@ use Rattle.ports.specs.Ports.{deciding_fault}
 use Rattle.nets.specs.Deciding.{deciding_call}
 use Rattle.nets.specs.Views.{ports_of, view}
 use Rattle.nets.proofs.Deciding.{too_short, port_refuses, no_room, can_decide, fault_is, decision_is, decided_so, sent_so}
-use Rattle.nets.proofs.Keeping.{kept, kept_refused, stops, inside_table}
+use Rattle.nets.proofs.Keeping.{handed_on, kept, kept_refused, stops, inside_table}
 use Rattle.nets.proofs.Ports.{only_port, numbered_still}
 use Rattle.nets.proofs.net.Net.decide.Goals as goal
 
@@ -26,16 +26,16 @@ returns-then-working-lt16 g c =
     let there = sym c.lacks.ensures ∙ c.if-lacks.false in
     record { kept = kept_refused v (decide x) WorkingListShort (too_short g.W.Wire.depth v x there c.if-working-lt16.true); same = (refl, refl) }
 
-pub returns-in-Err : goal.returns-in-Err
-returns-in-Err g c =
+pub returns-in_err-batch-clause-kept : goal.returns-in_err-batch-clause-kept
+returns-in_err-batch-clause-kept g c =
     let n = c.args.self.now in
     let v = view g.W.Wire.line g.B.Board.shown n in
     let x = deciding_call c.args.port c.args.number c.args.cuts c.args.working.now in
     let there = sym c.lacks.ensures ∙ c.if-lacks.false in
     let lt = inside_table n.reach c.args.port there in
-    let f = c.in-Err.fault in
-    let met : deciding_fault (ports_of n.ports c.args.port) x ≡ Some f = fault_is n.ports x n.own lt c.index-self-at.result ∙ c.in-Err.ensures in
-    record { kept = kept_refused v (decide x) f (port_refuses g.W.Wire.depth v x there c.if-working-lt16.false f met); same = (refl, refl) }
+    let f = c.in_err-batch.field-0.0 in
+    let met : deciding_fault (ports_of n.ports c.args.port) x ≡ Some f = fault_is n.ports x n.own lt c.index-self-at.result ∙ c.in_err-batch.ensures in
+    rw (handed_on {f = f} c.from_residual.result c.from_residual.ensures.1) (kept_refused v (decide x) f (port_refuses g.W.Wire.depth v x there c.if-working-lt16.false f met))
 
 pub returns-then-not-has_room : goal.returns-then-not-has_room
 returns-then-not-has_room g c =
@@ -47,7 +47,7 @@ returns-then-not-has_room g c =
     let x = deciding_call p c.args.number c.args.cuts c.args.working.now in
     let there = sym c.lacks.ensures ∙ c.if-lacks.false in
     let lt = inside_table n.reach p there in
-    let plan = c.in-Ok.ensures in
+    let plan = c.in_ok-batch.ensures in
     let d = c.index-self-at.result in
     let planned : deciding_fault (ports_of n.ports p) x ≡ None = fault_is n.ports x n.own lt d ∙ plan.accepted in
     let ds : decision (ports_of n.ports p) x ≡ c.list-notices.result.now = decision_is n.ports x n.own lt d ∙ sym (c.list-notices.ensures ∙ plan.notices) in
@@ -61,7 +61,7 @@ invariant_of-self-2 g c =
     let x = deciding_call p c.args.number c.args.cuts c.args.working.now in
     let lt = inside_table n.reach p (sym c.lacks.ensures ∙ c.if-lacks.false) in
     let e = c.index-self-at-2.result in
-    let planned : deciding_fault (ports_of n.ports p) x ≡ None = fault_is n.ports x n.own lt c.index-self-at.result ∙ c.in-Ok.ensures.accepted in
+    let planned : deciding_fault (ports_of n.ports p) x ≡ None = fault_is n.ports x n.own lt c.index-self-at.result ∙ c.in_ok-batch.ensures.accepted in
     let b = decided_so n.ports x n.own lt e c.decide.new.self c.decide.result planned c.decide.ensures in
     record { own = numbered_still n.ports p n.own lt e c.decide.new.self b.own }
 
@@ -75,7 +75,7 @@ returns g c =
     let x = deciding_call p c.args.number c.args.cuts c.args.working.now in
     let there = sym c.lacks.ensures ∙ c.if-lacks.false in
     let lt = inside_table n.reach p there in
-    let plan = c.in-Ok.ensures in
+    let plan = c.in_ok-batch.ensures in
     let d = c.index-self-at.result in
     let e = c.index-self-at-2.result in
     let planned : deciding_fault (ports_of n.ports p) x ≡ None = fault_is n.ports x n.own lt d ∙ plan.accepted in

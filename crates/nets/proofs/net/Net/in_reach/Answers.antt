@@ -1,23 +1,17 @@
-use Rattle.std.proofs.Common.{◌≡◌, ltb, sym, ap, ◌∙◌, arith}
-use Rattle.std.proofs.lemmas.Bool.{and_from, and_right, lt-ltb}
+use Rattle.std.proofs.Common.{◌≡◌, ℕ, Bool, true, ◌&&◌, ltb, sym, refl, ap, ◌∙◌, arith, rules}
+use borrow.Author.Tests.{tests}
+use Rattle.std.proofs.lemmas.Bool.{and_right, lt-ltb}
+use Rattle.std.proofs.lemmas.Iterator.{YieldsList-from_range}
+use Rattle.std.proofs.lemmas.Iterator.Search.{all_from_yields_List}
 use Rattle.model.specs.Lists.{every}
-use Rattle.sends.proofs.Rooms.{every_more, every_not}
+use Rattle.model.proofs.Every.{every_range}
 use Rattle.nets.specs.Handing.{addressed}
 use Rattle.nets.specs.Views.{table_of}
 use Rattle.nets.proofs.net.Net.in_reach.Goals as goal
 
-pub returns-then-not-may_name : goal.returns-then-not-may_name
-returns-then-not-may_name g c =
-    let t = addressed (table_of c.args.self.now.reach) c.args.port c.args.mask.bits in
-    sym (and_right (ltb c.args.mask.bits 256) (every 8 t) (every_not 8 t c.loop-to.to c.loop-to-test.true (sym {b = t c.loop-to.to} c.if-not-may_name.ensures)))
-
-pub loop-to-preserved : goal.loop-to-preserved
-loop-to-preserved g c =
-    let t = addressed (table_of c.args.self.now.reach) c.args.port c.args.mask.bits in
-    every_more c.loop-to.to t c.loop-to.invariant (sym {b = t c.loop-to.to} c.if-not-may_name.ensures)
-
 pub returns : goal.returns
 returns g c =
-    let t = addressed (table_of c.args.self.now.reach) c.args.port c.args.mask.bits in
-    let eight : c.loop-to.to ≡ 8 = omega arith in
-    sym (and_from (ltb c.args.mask.bits 256) (every 8 t) (lt-ltb c.args.mask.bits 256 (omega arith)) (ap (λ n. every n t) (sym eight) ∙ c.loop-to.invariant))
+    let test : ℕ → Bool = addressed (table_of c.args.self.now.reach) c.args.port c.args.mask.bits in
+    all_from_yields_List test c.all.new.self _ c.all.result c.all.ensures.ran (YieldsList-from_range 0 8 8 refl (omega arith)) (λ x b q k. search (rules, tests))
+    ∙ every_range 8 test
+    ∙ sym (ap (λ b. b && every 8 test) (lt-ltb c.args.mask.bits 256 (omega arith)))
