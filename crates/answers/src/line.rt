@@ -23,7 +23,7 @@ pub enum Line {
 // A line's text as far as its letter.
 fn head(place: usize, letter: u8) -> Text
     ensures text { text_of result ≡ head_text place letter }
-    ensures short { result.len ≤ 22 }
+    ensures short { length (text_of result) ≤ 22 }
 {
     let mut text = Text::new();
     text.add_number(place);
@@ -36,7 +36,7 @@ impl Line {
     // The line's text before its line feed.
     fn body(self) -> Text
         ensures text { text_of result ≡ body_text self }
-        ensures short { result.len ≤ 190 }
+        ensures short { length (text_of result) ≤ 190 }
     {
         match self {
             Line::Table => {

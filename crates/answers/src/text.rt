@@ -1,5 +1,5 @@
 // A text that is put together piece by piece, before it is known whether the memory has room for it.
-ghost use Rattle.std.specs.Prelude.{◌≡◌, ◌≤◌, length};
+use arrayvec::ArrayVec;
 
 mod adding; // bytes and numbers, added behind it
 mod printing; // the text, copied to the front of a memory
@@ -8,10 +8,7 @@ mod telling; // answers and refusals of a net, added behind it
 // Room for nine numbers of at most twenty digits, and eleven bytes between and behind them.
 const ROOM: usize = 191;
 
-// The first `len` of the bytes.
-#[derive(Clone, Copy)]
+#[derive(Drop)]
 pub struct Text {
-    bytes: [u8; ROOM],
-    len: usize,
-    ghost places: { (length bytes ≡ 191) × (len ≤ 191) },
+    bytes: ArrayVec<u8, ROOM>,
 }

@@ -1,52 +1,43 @@
 // Bytes and numbers, added behind a text.
 ghost use Rattle.std.specs.Prelude.{◌≡◌, ◌+◌, ◌<◌, ◌≤◌, [], ◌∷◌, length, decimal};
 ghost use Rattle.answers.specs.Answers.{item};
-ghost use Rattle.answers.specs.Texts.{Added};
+ghost use Rattle.answers.specs.Texts.{text_of, Added};
 
-use super::{ROOM, Text};
+use super::Text;
+use arrayvec::ArrayVec;
 
 impl Text {
     pub(crate) fn new() -> Text
-        ensures { result.len ≡ 0 }
+        ensures { text_of result ≡ [] }
     {
         Text {
-            bytes: [0; ROOM],
-            len: 0,
+            bytes: ArrayVec::new(),
         }
     }
 
     pub(crate) fn add_byte(&mut self, byte: u8)
-        requires { self.old.len < 191 }
+        requires { length (text_of self.old) < 191 }
         ensures { Added self.old self.new (byte ∷ []) }
     {
-        self.bytes[self.len] = byte;
-        self.len += 1;
+        self.bytes.push(byte);
     }
 
     // Adds the number in decimal, without leading zeros.
-    fn add_digits(&mut self, n: usize)
-        requires { self.old.len + length (decimal n) ≤ 191 }
-        ensures { Added self.old self.new (decimal n) }
-    {
-        if n >= 10 {
-            self.add_digits(n / 10);
-        }
-        self.add_byte(b'0' + (n % 10) as u8);
-    }
-
     pub(crate) fn add_number(&mut self, n: usize)
-        requires { self.old.len + 20 ≤ 191 }
+        requires { length (text_of self.old) + 20 ≤ 191 }
         ensures added { Added self.old self.new (decimal n) }
-        ensures short { self.new.len ≤ self.old.len + 20 }
+        ensures short { length (text_of self.new) ≤ length (text_of self.old) + 20 }
     {
-        self.add_digits(n);
+        let mut digits = itoa::Buffer::new();
+        let digits = digits.format(n).as_bytes();
+        self.bytes.try_extend_from_slice(digits).unwrap();
     }
 
     // Adds the number behind a mark.
     pub(crate) fn add_item(&mut self, mark: u8, n: usize)
-        requires { self.old.len + 21 ≤ 191 }
+        requires { length (text_of self.old) + 21 ≤ 191 }
         ensures added { Added self.old self.new (item mark n) }
-        ensures short { self.new.len ≤ self.old.len + 21 }
+        ensures short { length (text_of self.new) ≤ length (text_of self.old) + 21 }
     {
         self.add_byte(mark);
         self.add_number(n);

@@ -9,11 +9,11 @@ impl Text {
     pub(crate) fn print(&self, out: &mut [u8]) -> Result<usize, OutputFault>
         ensures { MatchResult result (λ n. Printed (text_of self.now) out.old out.new n) (λ f. NoRoom (text_of self.now) out.old out.new f) }
     {
-        let len = self.len;
+        let len = self.bytes.len();
         if out.len() < len {
             return Err(OutputFault::MemoryTooShort);
         }
-        out[0..len].copy_from_slice(&self.bytes[0..len]);
+        out[..len].copy_from_slice(&self.bytes);
         Ok(len)
     }
 }

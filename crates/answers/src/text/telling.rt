@@ -1,7 +1,7 @@
 // Answers and refusals of a net, added behind a text.
-ghost use Rattle.std.specs.Prelude.{◌+◌, ◌≤◌};
+ghost use Rattle.std.specs.Prelude.{◌+◌, ◌≤◌, length};
 ghost use Rattle.answers.specs.Answers.{pair_text, stamp_text, released_text, answer_text, holders_text, result_text};
-ghost use Rattle.answers.specs.Texts.{Added};
+ghost use Rattle.answers.specs.Texts.{text_of, Added};
 
 use super::Text;
 use crate::answer::Answer;
@@ -12,18 +12,18 @@ use records::stamp::{Pair, Stamp};
 
 impl Text {
     fn add_pair(&mut self, pair: Pair)
-        requires { self.old.len + 42 ≤ 191 }
+        requires { length (text_of self.old) + 42 ≤ 191 }
         ensures added { Added self.old self.new (pair_text pair) }
-        ensures short { self.new.len ≤ self.old.len + 42 }
+        ensures short { length (text_of self.new) ≤ length (text_of self.old) + 42 }
     {
         self.add_item(b' ', pair.clock as usize);
         self.add_item(b'.', pair.step as usize);
     }
 
     fn add_stamp(&mut self, stamp: Stamp)
-        requires { self.old.len + 63 ≤ 191 }
+        requires { length (text_of self.old) + 63 ≤ 191 }
         ensures added { Added self.old self.new (stamp_text stamp) }
-        ensures short { self.new.len ≤ self.old.len + 63 }
+        ensures short { length (text_of self.new) ≤ length (text_of self.old) + 63 }
     {
         self.add_pair(stamp.pair);
         self.add_item(b'.', stamp.port as usize);
@@ -31,9 +31,9 @@ impl Text {
 
     // Adds what is told of a release.
     fn add_released(&mut self, decided: Decided, outcome: Outcome)
-        requires { self.old.len + 147 ≤ 191 }
+        requires { length (text_of self.old) + 147 ≤ 191 }
         ensures added { Added self.old self.new (released_text decided outcome) }
-        ensures short { self.new.len ≤ self.old.len + 147 }
+        ensures short { length (text_of self.new) ≤ length (text_of self.old) + 147 }
     {
         self.add_stamp(decided.stamp);
         self.add_item(b' ', decided.notice.home as usize);
@@ -44,9 +44,9 @@ impl Text {
 
     // Adds the details of an answer.
     fn add_answer(&mut self, answer: Answer)
-        requires { self.old.len + 147 ≤ 191 }
+        requires { length (text_of self.old) + 147 ≤ 191 }
         ensures added { Added self.old self.new (answer_text answer) }
-        ensures short { self.new.len ≤ self.old.len + 147 }
+        ensures short { length (text_of self.new) ≤ length (text_of self.old) + 147 }
     {
         match answer {
             Answer::Count(count) => self.add_item(b' ', count as usize),
@@ -62,9 +62,9 @@ impl Text {
 
     // Adds the holders, where there are any.
     fn add_holders(&mut self, fault: NetFault)
-        requires { self.old.len + 21 ≤ 191 }
+        requires { length (text_of self.old) + 21 ≤ 191 }
         ensures added { Added self.old self.new (holders_text fault) }
-        ensures short { self.new.len ≤ self.old.len + 21 }
+        ensures short { length (text_of self.new) ≤ length (text_of self.old) + 21 }
     {
         if let NetFault::Held(holders) = fault {
             self.add_item(b' ', holders.bits as usize);
@@ -73,9 +73,9 @@ impl Text {
 
     // Adds 0 and the details of the answer, or the number and the details of the refusal.
     pub(crate) fn add_result(&mut self, res: Result<Answer, NetFault>)
-        requires { self.old.len + 168 ≤ 191 }
+        requires { length (text_of self.old) + 168 ≤ 191 }
         ensures added { Added self.old self.new (result_text res) }
-        ensures short { self.new.len ≤ self.old.len + 168 }
+        ensures short { length (text_of self.new) ≤ length (text_of self.old) + 168 }
     {
         match res {
             Ok(answer) => {
