@@ -7,9 +7,9 @@ use Rattle.boards_tests.proofs.visits.first_visit.Goals as goal
 
 pub returns : goal.returns
 returns g c =
-    let w = c.args.watching in
-    let h = c.args.home in
-    let b = c.args.berth in
+    let w = c.args.at.watching in
+    let h = c.args.at.home in
+    let b = c.args.at.berth in
     let v = c.args.vessel in
     let none = c.empty.ensures w h b in
     let rule = g.B.Board.rule in
