@@ -34,7 +34,11 @@ impl<W: Wire, B: Board> Net<W, B> {
         }
         let _ = self.ports[at].release();
         let notice = lowest.notice;
-        let at = Spot::new(port, notice.home, notice.berth);
+        let at = Spot {
+            watching: port,
+            home: notice.home,
+            berth: notice.berth,
+        };
         let outcome = self.board.apply(at, notice.action, notice.vessel);
         Ok((lowest, outcome))
     }
