@@ -103,7 +103,10 @@ fn one_order<W: Wire + Drop, B: Board + Drop>(
     assert_eq!(rt; released(&mut net, 1), Ok((100, 1, 1, 9, second)));
     assert_eq!(rt; net.vessel_at(Spot::new(0, 0, 4), 0), 7);
     assert_eq!(rt; net.vessel_at(Spot::new(1, 0, 4), 0), 7);
-    assert_eq!(rt; net.vessels(Spot::new(0, 0, 4)), net.vessels(Spot::new(1, 0, 4)));
+    assert_eq!(rt;
+        net.vessels(Spot::new(0, 0, 4)),
+        net.vessels(Spot::new(1, 0, 4))
+    );
     Ok(())
 }
 
