@@ -1,5 +1,5 @@
 -- What an array of lists shows after one of them is changed. Assumes nothing.
-use Rattle.std.specs.Prelude.{◌≡◌, ℕ, zero, suc, ◌+◌, ◌*◌, ◌<◌, true, false, ◌&&◌, ◌≢◌, List, [], ◌∷◌, map, length, get_or, Some, None, Option, ◌==◌, slice_index_or, slice_set, refl}
+use Rattle.std.specs.Prelude.{◌≡◌, ℕ, zero, suc, ◌+◌, ◌*◌, ◌<◌, true, false, ◌&&◌, ◌≢◌, List, [], ◌∷◌, map, length, get_or, Some, None, ◌==◌, slice_index_or, slice_set, refl}
 use Rattle.std.proofs.Common.{sym, ap, ◌∙◌, ⊎_elim, arith}
 use Rattle.std.proofs.lemmas.List.{length-map, get_or-map, map-set, get_or-set_same, get_or-set_other}
 use Rattle.std.proofs.lemmas.Bool.{cases_Bool, cond-true, cond-false, cond_both}
@@ -13,15 +13,9 @@ use Rattle.boards.proofs.ShownLaws.{berth_bounds, in_range_lem, turned_in_range,
 pub place_some : (w h b k : ℕ) → Some k ≡ place_of w h b → (is_berth w h b ≡ true) × (k ≡ w * 128 + h * 16 + b)
 place_some w h b k e =
     ⊎_elim
-    (λ t. (t, some_is (e ∙ cond-true (is_berth w h b) (Some (w * 128 + h * 16 + b)) None t)))
-    (λ f. absurd (none_is (e ∙ cond-false (is_berth w h b) (Some (w * 128 + h * 16 + b)) None f)))
+    (λ t. let here = e ∙ cond-true (is_berth w h b) (Some (w * 128 + h * 16 + b)) None t in (t, cc))
+    (λ f. let nowhere = e ∙ cond-false (is_berth w h b) (Some (w * 128 + h * 16 + b)) None f in absurd cc)
     (cases_Bool (is_berth w h b))
-  where
-    some_is : Some k ≡ Some (w * 128 + h * 16 + b) → k ≡ w * 128 + h * 16 + b
-    some_is h = cc
-
-    none_is : ◌≡◌ {A = Option ℕ} (Some k) None → ⊥
-    none_is h = let z : ◌≡◌ {A = ℕ} 0 1 = cc in omega arith
 
 module _ {X : Type 0} (means : X → Vessels) where
   -- what each element means is what stands there

@@ -6,8 +6,8 @@ ghost use Rattle.boards.specs.Shown.{Proper};
 use crate::outcome::Outcome;
 use records::notice::Action;
 
-// The vessels at one berth: first the one alongside, then those who wait. No vessel is 0. The laws are those of `Board`,
-// which `Berths` has from here.
+// The vessels at one berth: first the one alongside, then those who wait. No vessel is 0. Each law of `Board` is a law here,
+// and `Berths` takes it over.
 pub trait Berth {
     // The vessels, in order.
     ghost vessels: { Self → Vessels };
@@ -44,7 +44,7 @@ pub trait Berth {
 
     ghost held: { StaysHeld holds rule };
 
-    ghost none: { holds [] ≡ true };
+    ghost none_held: { holds [] ≡ true };
 
     ghost proper: { (b : Self) → Proper holds (vessels b) };
 }

@@ -27,7 +27,7 @@ impl<K: Berth> Berths<K> {
 
     // The list of a spot, if there is such a list.
     fn list(&self, at: Spot) -> Option<&K>
-        ensures { MatchOption result (shown_by K.vessels self.now.lists at.watching at.home at.berth ≡ []) (λ list. K.vessels list.now ≡ shown_by K.vessels self.now.lists at.watching at.home at.berth) }
+        ensures { let shown = shown_by K.vessels self.now.lists at.watching at.home at.berth in MatchOption result (shown ≡ []) (λ list. K.vessels list.now ≡ shown) }
     {
         self.lists.get(at.index()?)
     }
@@ -59,7 +59,7 @@ impl<K: Berth + Drop> Board for Berths<K> {
 
     ghost held = { K.held };
 
-    ghost proper = { λ b p q k. shown_each K.vessels (Proper K.holds) (record { held = K.none; apart = refl; named = refl }) K.proper b.lists p q k };
+    ghost proper = { λ b p q k. shown_each K.vessels (Proper K.holds) (record { held = K.none_held; apart = refl; named = refl }) K.proper b.lists p q k };
 
     ghost outside = { λ b. none_outside K.vessels b.lists };
 

@@ -39,7 +39,7 @@ impl Berth for FirstComeBerth {
 
     ghost held = { first_come_held };
 
-    ghost none = { refl };
+    ghost none_held = { refl };
 
     ghost proper = { λ b. b.proper };
 

@@ -14,6 +14,7 @@ pub type Queue = Berths<QueueBerth>;
 // How many vessels a berth can list, the one alongside counted.
 const PLACES: usize = 4;
 
+// The vessels at one berth, in order.
 #[derive(Drop)]
 pub struct QueueBerth {
     vessels: ArrayVec<u16, PLACES>,
@@ -70,7 +71,7 @@ impl Berth for QueueBerth {
 
     ghost held = { queue_held };
 
-    ghost none = { refl };
+    ghost none_held = { refl };
 
     ghost proper = { λ b. b.proper };
 

@@ -1,7 +1,5 @@
-use Rattle.std.proofs.Common.{◌≡◌, ◌<◌, true, ◌&&◌, ap, ◌∙◌}
+use Rattle.std.proofs.Common.{ap, ◌∙◌}
 use Rattle.records.specs.declared.notice.Action.TheVariants.{Take}
-use Rattle.boards.specs.Rules.{Vessels}
-use Rattle.boards.specs.Shown.{in_range}
 use Rattle.boards.proofs.ShownLaws.{applied_list, applied_outcome, vessel_in_range}
 use Rattle.boards_tests.proofs.visits.first_visit.Goals as goal
 
