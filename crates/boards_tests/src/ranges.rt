@@ -31,11 +31,9 @@ fn check_ranges<B: Board>(rt: &impl Abort, board: &mut B) {
 
 // Only the list of its berth at its watching port changes.
 fn check_one_list<B: Board>(rt: &impl Abort, board: &mut B) {
+    let at = Spot::new(1, 2, 3);
     board.empty();
-    assert_eq!(rt;
-        board.apply(Spot::new(1, 2, 3), Action::Take, 500).number(),
-        1
-    );
+    assert_eq!(rt; board.apply(at, Action::Take, 500).number(), 1);
     // out of range, these would lie beside it
     assert_eq!(rt;
         board
@@ -49,22 +47,16 @@ fn check_one_list<B: Board>(rt: &impl Abort, board: &mut B) {
             .number(),
         3
     );
-    assert_eq!(rt;
-        board.apply(Spot::new(1, 2, 3), Action::Leave, 0).number(),
-        3
-    );
-    assert_eq!(rt; board.vessel_at(Spot::new(1, 2, 3), 0), 500);
-    let mut listed = 0;
+    assert_eq!(rt; board.apply(at, Action::Leave, 0).number(), 3);
+    assert_eq!(rt; board.vessel_at(at, 0), 500);
     for watching in 0..8u8 {
         for home in 0..8u8 {
             for berth in 0..16u8 {
-                if board.len(Spot::new(watching, home, berth)) != 0 {
-                    listed = 1 + listed % 1024;
-                }
+                let other = Spot::new(watching, home, berth);
+                assert_eq!(rt; board.len(other), usize::from(other == at));
             }
         }
     }
-    assert_eq!(rt; listed, 1);
 }
 
 // The first list and the last are emptied too.
