@@ -1,7 +1,7 @@
 -- What an array of lists shows after one of them is changed. Assumes nothing.
-use Rattle.std.specs.Prelude.{◌≡◌, ℕ, ◌+◌, ◌*◌, ◌<◌, true, false, ◌&&◌, ◌≢◌, List, [], map, length, get_or, replicate, Some, None, Option, ◌==◌, slice_index_or, slice_set, refl}
+use Rattle.std.specs.Prelude.{◌≡◌, ℕ, zero, suc, ◌+◌, ◌*◌, ◌<◌, true, false, ◌&&◌, ◌≢◌, List, [], ◌∷◌, map, length, get_or, Some, None, ◌==◌, slice_index_or, slice_set, refl}
 use Rattle.std.proofs.Common.{sym, ap, ◌∙◌, ⊎_elim, arith}
-use Rattle.std.proofs.lemmas.List.{length-map, length-replicate, get_or-replicate, get_or-map, map-set, get_or-set_same, get_or-set_other}
+use Rattle.std.proofs.lemmas.List.{length-map, get_or-map, map-set, get_or-set_same, get_or-set_other}
 use Rattle.std.proofs.lemmas.Bool.{cases_Bool, cond-true, cond-false, cond_both}
 use Rattle.records.specs.declared.notice.Action.{Action}
 use Rattle.boards.specs.declared.outcome.Outcome.{Outcome}
@@ -13,23 +13,20 @@ use Rattle.boards.proofs.ShownLaws.{berth_bounds, in_range_lem, turned_in_range,
 pub place_some : (w h b k : ℕ) → Some k ≡ place_of w h b → (is_berth w h b ≡ true) × (k ≡ w * 128 + h * 16 + b)
 place_some w h b k e =
     ⊎_elim
-    (λ t. (t, some_is (e ∙ cond-true (is_berth w h b) (Some (w * 128 + h * 16 + b)) None t)))
-    (λ f. absurd (none_is (e ∙ cond-false (is_berth w h b) (Some (w * 128 + h * 16 + b)) None f)))
+    (λ t. let here = e ∙ cond-true (is_berth w h b) (Some (w * 128 + h * 16 + b)) None t in (t, cc))
+    (λ f. let nowhere = e ∙ cond-false (is_berth w h b) (Some (w * 128 + h * 16 + b)) None f in absurd cc)
     (cases_Bool (is_berth w h b))
-  where
-    some_is : Some k ≡ Some (w * 128 + h * 16 + b) → k ≡ w * 128 + h * 16 + b
-    some_is h = cc
-
-    none_is : ◌≡◌ {A = Option ℕ} (Some k) None → ⊥
-    none_is h = let z : ◌≡◌ {A = ℕ} 0 1 = cc in omega arith
 
 module _ {X : Type 0} (means : X → Vessels) where
-  -- an array whose every element means the empty list shows none
-  pub all_empty : (xs : List X) → ((i : ℕ) → i < 1024 → slice_index_or (map means xs) i [] ≡ []) → Emptied (shown_by means xs)
-  all_empty xs each p q k = cond_both (is_berth p q k) (slice_index_or (map means xs) (p * 128 + q * 16 + k) []) [] (λ l. l ≡ []) (λ t. let b = berth_bounds p q k t in each (p * 128 + q * 16 + k) (omega arith)) (λ _. refl)
+  -- what each element means is what stands there
+  at_each : (P : Vessels → Type 0) (xs : List X) (i : ℕ) → P [] → ((d : X) → P (means (slice_index_or xs i d))) → P (slice_index_or (map means xs) i [])
+  at_each P [] i none each = none
+  at_each P (x ∷ xs) zero none each = each x
+  at_each P (x ∷ xs) (suc i) none each = at_each P xs i none each
 
-  pub empty_new : (x : X) → means x ≡ [] → Emptied (shown_by means (replicate 1024 x))
-  empty_new x e = all_empty (replicate 1024 x) (λ k lt. get_or-map means (replicate 1024 x) k x [] (omega (arith, length-replicate 1024 x)) ∙ ap means (get_or-replicate 1024 k x x lt) ∙ e)
+  -- an array whose every element means the empty list shows none
+  pub all_empty : (xs : List X) → ((i : ℕ) (d : X) → i < 1024 → means (slice_index_or xs i d) ≡ []) → Emptied (shown_by means xs)
+  all_empty xs each p q k = cond_both (is_berth p q k) (slice_index_or (map means xs) (p * 128 + q * 16 + k) []) [] (λ l. l ≡ []) (λ t. let b = berth_bounds p q k t in at_each (λ l. l ≡ []) xs (p * 128 + q * 16 + k) refl (λ d. each (p * 128 + q * 16 + k) d (omega arith))) (λ _. refl)
 
   -- the element at i is the list of watching port w, home h and berth b
   module _ (xs : List X) (w h b i : ℕ) (long : length xs ≡ 1024) (at : Some i ≡ place_of w h b) where

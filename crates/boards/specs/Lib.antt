@@ -1,4 +1,3 @@
-pub mod Berths
 pub mod Kinds
 pub mod Places
 pub mod Rules
@@ -6,4 +5,3 @@ pub mod Shown
 pub mod KindLaws
 pub mod ListLaws
 pub mod PlaceLaws
-pub mod BerthLaws

@@ -1,18 +1,50 @@
-// The vessels at one berth of the queue board.
-ghost use Rattle.std.specs.Prelude.{◌≡◌, ◌≤◌, true, false, length, take};
-ghost use Rattle.boards.specs.Rules.{listed, once};
+// The list that a kind of board keeps of one berth.
+ghost use Rattle.std.specs.Prelude.{◌≡◌, ◌<◌, Bool, true, []};
+ghost use Rattle.boards.specs.Rules.{Vessels, Rule, TakesAlone, Leaves, FirstStays, StaysOnce, ClashIsSame, StaysHeld};
+ghost use Rattle.boards.specs.Shown.{Proper};
 
-mod turns; // what a berth can do
+use crate::outcome::Outcome;
+use records::notice::Action;
 
-// How many vessels a berth can list, the one alongside counted.
-const PLACES: usize = 4;
+// The vessels at one berth: first the one alongside, then those who wait. No vessel is 0. Each law of `Board` is a law here,
+// and `Berths` takes it over.
+pub trait Berth {
+    // The vessels, in order.
+    ghost vessels: { Self → Vessels };
 
-// The first `len` places have the vessels, in order.
-#[derive(Clone, Copy)]
-pub struct Berth {
-    vessels: [u16; PLACES],
-    len: usize,
-    ghost places: { (length vessels ≡ 4) × (len ≤ 4) },
-    ghost apart: { once (take len vessels) ≡ true },
-    ghost named: { listed 0 (take len vessels) ≡ false },
+    // What this kind of board makes of a list.
+    ghost rule: { Rule };
+
+    // Which lists this kind of board can hold.
+    ghost holds: { Vessels → Bool };
+
+    // A berth with no vessel.
+    fn new() -> Self
+        ensures { vessels result ≡ [] };
+
+    // The vessels.
+    fn as_slice(&self) -> &[u16]
+        ensures { result.now ≡ vessels self.now };
+
+    // What a notice makes of the berth.
+    fn turn(&mut self, action: Action, vessel: u16) -> Outcome
+        requires { 0 < vessel }
+        ensures list { vessels self.new ≡ (rule (vessels self.old) action vessel).list }
+        ensures outcome { result ≡ (rule (vessels self.old) action vessel).outcome };
+
+    ghost alone: { TakesAlone rule };
+
+    ghost leaves: { Leaves holds rule };
+
+    ghost first: { FirstStays holds rule };
+
+    ghost once: { StaysOnce holds rule };
+
+    ghost clash: { ClashIsSame holds rule };
+
+    ghost held: { StaysHeld holds rule };
+
+    ghost none_held: { holds [] ≡ true };
+
+    ghost proper: { (b : Self) → Proper holds (vessels b) };
 }

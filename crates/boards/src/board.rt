@@ -4,6 +4,7 @@ ghost use Rattle.boards.specs.Rules.{Vessels, Rule, TakesAlone, Leaves, FirstSta
 ghost use Rattle.boards.specs.Shown.{Applied, Emptied, NoneOutside, Proper};
 
 use crate::outcome::Outcome;
+use crate::spot::Spot;
 use records::notice::Action;
 
 // A board shows, for each watching port and each berth of each home port, a list of vessels: first the one alongside,
@@ -19,16 +20,16 @@ pub trait Board {
     ghost holds: { Vessels → Bool };
 
     // Applies a notice at a watching port. A number out of range changes nothing and is a clash.
-    fn apply(&mut self, watching: u8, home: u8, berth: u8, action: Action, vessel: u16) -> Outcome
-        ensures { Applied rule (shown self.old) (shown self.new) watching home berth action vessel result };
+    fn apply(&mut self, at: Spot, action: Action, vessel: u16) -> Outcome
+        ensures { Applied rule (shown self.old) (shown self.new) at.watching at.home at.berth action vessel result };
 
     // How many vessels the list has.
-    fn len(&self, watching: u8, home: u8, berth: u8) -> usize
-        ensures { result ≡ length (shown self.now watching home berth) };
+    fn len(&self, at: Spot) -> usize
+        ensures { result ≡ length (shown self.now at.watching at.home at.berth) };
 
     // The vessel at a place of the list, counted from 0, and 0 where there is none.
-    fn vessel_at(&self, watching: u8, home: u8, berth: u8, place: usize) -> u16
-        ensures { result ≡ slice_index (shown self.now watching home berth) place };
+    fn vessel_at(&self, at: Spot, place: usize) -> u16
+        ensures { result ≡ slice_index (shown self.now at.watching at.home at.berth) place };
 
     // Makes every list empty.
     fn empty(&mut self)

@@ -5,24 +5,19 @@ ghost use Rattle.std.specs.Prelude.{◌≡◌};
 #[derive(Clone, Copy, PartialEq, Eq, Debug)]
 pub enum Outcome {
     // the vessel has the berth
-    Alongside,
+    Alongside = 1,
     // the vessel has left the list
-    Gone,
+    Gone = 2,
     // the notice does not fit the list, which stays as it was
-    Clash,
+    Clash = 3,
     // the vessel stands in the list behind another
-    Waits,
+    Waits = 4,
 }
 
 impl Outcome {
     pub fn number(self) -> u8
         ensures { result ≡ outcome_number self }
     {
-        match self {
-            Outcome::Alongside => 1,
-            Outcome::Gone => 2,
-            Outcome::Clash => 3,
-            Outcome::Waits => 4,
-        }
+        self as u8
     }
 }

@@ -1,55 +1,59 @@
 // The queue board: behind the vessel alongside up to three others wait, in the order in which they came.
-ghost use Rattle.boards.specs.Berths.{vessels_of};
-ghost use Rattle.boards.specs.Kinds.{queue, at_most};
-ghost use Rattle.boards.specs.Places.{shown_by};
-ghost use Rattle.boards.specs.Shown.{Applied, Emptied, Proper};
-ghost use Rattle.std.specs.Prelude.{◌≡◌, refl};
-ghost use Rattle.boards.specs.KindLaws.{queue_leaves, queue_first, queue_once, queue_clash, queue_held, proper_none};
-ghost use Rattle.boards.specs.BerthLaws.{proper_berth};
-ghost use Rattle.boards.specs.PlaceLaws.{none_outside, shown_each};
+ghost use Rattle.std.specs.Prelude.{◌≡◌, ◌<◌, refl};
+ghost use Rattle.boards.specs.Kinds.{queue, taken_last, left, at_most};
+ghost use Rattle.boards.specs.Shown.{Proper};
 
 use crate::berth::Berth;
-use crate::board::Board;
+use crate::berths::Berths;
 use crate::outcome::Outcome;
-use crate::place::{LISTS, Spot};
+use arrayvec::ArrayVec;
 use records::notice::Action;
 
+pub type Queue = Berths<QueueBerth>;
+
+// How many vessels a berth can list, the one alongside counted.
+const PLACES: usize = 4;
+
+// The vessels at one berth, in order.
 #[derive(Drop)]
-pub struct Queue {
-    berths: [Berth; LISTS],
+pub struct QueueBerth {
+    vessels: ArrayVec<u16, PLACES>,
+    ghost proper: { Proper (at_most 4) vessels.items },
 }
 
-impl Queue {
-    pub fn new() -> Queue
-        ensures { Emptied (shown_by vessels_of result.berths) }
+impl QueueBerth {
+    fn take(&mut self, vessel: u16) -> Outcome
+        requires { 0 < vessel }
+        ensures list { self.new.vessels.items ≡ (taken_last self.old.vessels.items vessel).list }
+        ensures outcome { result ≡ (taken_last self.old.vessels.items vessel).outcome }
     {
-        Queue {
-            berths: [Berth::new(); LISTS],
+        if self.vessels.is_full() || self.vessels.contains(&vessel) {
+            return Outcome::Clash;
+        }
+        self.vessels.push(vessel);
+        if self.vessels.len() == 1 {
+            Outcome::Alongside
+        } else {
+            Outcome::Waits
         }
     }
 
-    // The vessels at a berth; none where there is no such berth.
-    fn berth(&self, spot: Spot) -> Berth
-        ensures { vessels_of result ≡ shown_by vessels_of self.now.berths spot.watching spot.home spot.berth }
+    fn leave(&mut self, vessel: u16) -> Outcome
+        ensures list { self.new.vessels.items ≡ (left self.old.vessels.items vessel).list }
+        ensures outcome { result ≡ (left self.old.vessels.items vessel).outcome }
     {
-        let Some(at) = spot.index() else {
-            return Berth::new();
-        };
-        self.berths[at]
-    }
-
-    fn turn_at(&mut self, spot: Spot, action: Action, vessel: u16) -> Outcome
-        ensures { Applied queue (shown_by vessels_of self.old.berths) (shown_by vessels_of self.new.berths) spot.watching spot.home spot.berth action vessel result }
-    {
-        match spot.index() {
-            Some(at) if vessel != 0 => self.berths[at].turn(action, vessel),
-            _ => Outcome::Clash,
+        if !self.vessels.contains(&vessel) {
+            return Outcome::Clash;
         }
+        self.vessels.retain(|other| *other != vessel);
+        Outcome::Gone
     }
 }
 
-impl Board for Queue {
-    ghost shown = { λ b. shown_by vessels_of b.berths };
+impl Berth for QueueBerth {
+    ghost use Rattle.boards.specs.KindLaws.{queue_leaves, queue_first, queue_once, queue_clash, queue_held};
+
+    ghost vessels = { λ b. b.vessels.items };
 
     ghost rule = { queue };
 
@@ -67,23 +71,24 @@ impl Board for Queue {
 
     ghost held = { queue_held };
 
-    ghost proper = { λ b p q k. shown_each vessels_of (Proper (at_most 4)) (proper_none 4) proper_berth b.berths p q k };
+    ghost none_held = { refl };
 
-    ghost outside = { λ b. none_outside vessels_of b.berths };
+    ghost proper = { λ b. b.proper };
 
-    fn apply(&mut self, watching: u8, home: u8, berth: u8, action: Action, vessel: u16) -> Outcome {
-        self.turn_at(Spot::new(watching, home, berth), action, vessel)
+    fn new() -> Self {
+        QueueBerth {
+            vessels: ArrayVec::new(),
+        }
     }
 
-    fn len(&self, watching: u8, home: u8, berth: u8) -> usize {
-        self.berth(Spot::new(watching, home, berth)).len()
+    fn as_slice(&self) -> &[u16] {
+        self.vessels.as_slice()
     }
 
-    fn vessel_at(&self, watching: u8, home: u8, berth: u8, place: usize) -> u16 {
-        self.berth(Spot::new(watching, home, berth)).at(place)
-    }
-
-    fn empty(&mut self) {
-        *self = Queue::new();
+    fn turn(&mut self, action: Action, vessel: u16) -> Outcome {
+        match action {
+            Action::Take => self.take(vessel),
+            Action::Leave => self.leave(vessel),
+        }
     }
 }

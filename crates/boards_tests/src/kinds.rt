@@ -2,22 +2,30 @@
 use boards::board::Board;
 use boards::first_come::FirstCome;
 use boards::queue::Queue;
+use boards::spot::Spot;
 use records::notice::Action;
 use std::process::Abort;
 
-// A notice about berth 5 of port 2 at watching port 3: the number of its outcome.
+// Berth 5 of port 2, at watching port 3.
+const SPOT: Spot = Spot {
+    watching: 3,
+    home: 2,
+    berth: 5,
+};
+
+// A notice about it: the number of its outcome.
 fn turn<B: Board>(board: &mut B, action: Action, vessel: u16) -> u8 {
-    board.apply(3, 2, 5, action, vessel).number()
+    board.apply(SPOT, action, vessel).number()
 }
 
 // The list there has exactly these vessels, with 0 at every place behind them.
 fn check_list<B: Board>(rt: &impl Abort, board: &B, vessels: &[u16]) {
-    assert_eq!(rt; board.len(3, 2, 5), vessels.len());
+    assert_eq!(rt; board.len(SPOT), vessels.len());
     for (place, vessel) in vessels.iter().enumerate() {
-        assert_eq!(rt; board.vessel_at(3, 2, 5, place), *vessel);
+        assert_eq!(rt; board.vessel_at(SPOT, place), *vessel);
     }
     for place in vessels.len()..6 {
-        assert_eq!(rt; board.vessel_at(3, 2, 5, place), 0);
+        assert_eq!(rt; board.vessel_at(SPOT, place), 0);
     }
 }
 

@@ -4,6 +4,7 @@ use boards::board::Board;
 use boards::first_come::FirstCome;
 use boards::outcome::Outcome;
 use boards::queue::Queue;
+use boards::spot::Spot;
 use nets::net::Net;
 use records::fault::NetFault;
 use records::mask::Mask;
@@ -100,9 +101,12 @@ fn one_order<W: Wire + Drop, B: Board + Drop>(
     assert_eq!(rt; net.bring(0, 1), Ok(()));
     assert_eq!(rt; net.fetch(1, 0), Ok(()));
     assert_eq!(rt; released(&mut net, 1), Ok((100, 1, 1, 9, second)));
-    assert_eq!(rt; net.vessel_at(0, 0, 4, 0), 7);
-    assert_eq!(rt; net.vessel_at(1, 0, 4, 0), 7);
-    assert_eq!(rt; net.vessels(0, 0, 4), net.vessels(1, 0, 4));
+    assert_eq!(rt; net.vessel_at(Spot::new(0, 0, 4), 0), 7);
+    assert_eq!(rt; net.vessel_at(Spot::new(1, 0, 4), 0), 7);
+    assert_eq!(rt;
+        net.vessels(Spot::new(0, 0, 4)),
+        net.vessels(Spot::new(1, 0, 4))
+    );
     Ok(())
 }
 
@@ -155,6 +159,6 @@ fn a_clearance_raises_the_floor(rt: HostRuntime) -> Result<(), Fail> {
     );
     assert_eq!(rt; net.fetch(1, 0), Ok(()));
     assert_eq!(rt; released(&mut net, 1), Ok((100, 1, 0, 7, Outcome::Clash)));
-    assert_eq!(rt; net.vessel_at(1, 0, 4, 0), 9);
+    assert_eq!(rt; net.vessel_at(Spot::new(1, 0, 4), 0), 9);
     Ok(())
 }

@@ -8,6 +8,7 @@ ghost use Rattle.std.specs.Prelude.{◌≡◌, MatchResult, OnErr};
 use crate::net::Net;
 use boards::board::Board;
 use boards::outcome::Outcome;
+use boards::spot::Spot;
 use records::fault::NetFault;
 use records::notice::Decided;
 use wires::wire::Wire;
@@ -33,13 +34,12 @@ impl<W: Wire, B: Board> Net<W, B> {
         }
         let _ = self.ports[at].release();
         let notice = lowest.notice;
-        let outcome = self.board.apply(
-            port,
-            notice.home,
-            notice.berth,
-            notice.action,
-            notice.vessel,
-        );
+        let at = Spot {
+            watching: port,
+            home: notice.home,
+            berth: notice.berth,
+        };
+        let outcome = self.board.apply(at, notice.action, notice.vessel);
         Ok((lowest, outcome))
     }
 }

@@ -4,20 +4,21 @@ ghost use Rattle.std.specs.Prelude.{◌≡◌, length, slice_index};
 
 use crate::net::Net;
 use boards::board::Board;
+use boards::spot::Spot;
 use wires::wire::Wire;
 
 impl<W: Wire, B: Board> Net<W, B> {
-    // How many vessels the port's board shows for a berth of the home port.
-    pub fn vessels(&self, port: u8, home: u8, berth: u8) -> usize
-        ensures { result ≡ length ((view W.line B.shown self.now).shown port home berth) }
+    // How many vessels the watching port's board shows for a berth of the home port.
+    pub fn vessels(&self, at: Spot) -> usize
+        ensures { result ≡ length ((view W.line B.shown self.now).shown at.watching at.home at.berth) }
     {
-        self.board.len(port, home, berth)
+        self.board.len(at)
     }
 
     // The vessel at a place of that list, counted from 0: first the one alongside; 0 where there is none.
-    pub fn vessel_at(&self, port: u8, home: u8, berth: u8, place: usize) -> u16
-        ensures { result ≡ slice_index ((view W.line B.shown self.now).shown port home berth) place }
+    pub fn vessel_at(&self, at: Spot, place: usize) -> u16
+        ensures { result ≡ slice_index ((view W.line B.shown self.now).shown at.watching at.home at.berth) place }
     {
-        self.board.vessel_at(port, home, berth, place)
+        self.board.vessel_at(at, place)
     }
 }
