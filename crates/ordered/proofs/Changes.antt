@@ -18,15 +18,3 @@ module _ {X : Type 0} {key : X → List ℕ} {before : X → X → Bool} (total 
         rising = λ up. subst (Rising before) (sym entries) (rising_placed total x (take len old) up);
         strict = λ up fresh. subst (Strict before) (sym entries) (strict_placed total x (take len old) up fresh);
       }
-
-module _ {X : Type 0} (before : X → X → Bool) (x : X) (len : ℕ) (old new : List X) where
-  pub taken_out : 0 < len → len ≤ length old → take len old ≡ x ∷ take (len - 1) new → drop (len - 1) new ≡ x ∷ drop len old → Taken before x len old new
-  taken_out some within entries beyond = record {
-    some = some;
-    within = within;
-    entries = entries;
-    beyond = beyond;
-    least = λ up. pairs_first (λ u v. not (before v u)) x (take (len - 1) new) (subst (Rising before) entries up);
-    rising = λ up. pairs_rest (λ u v. not (before v u)) x (take (len - 1) new) (subst (Rising before) entries up);
-    strict = λ up. pairs_rest before x (take (len - 1) new) (subst (Strict before) entries up);
-  }

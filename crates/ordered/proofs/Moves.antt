@@ -52,22 +52,3 @@ module _ {X : Type 0} where
 
     pub pushed_drop : drop (len + 1) (set (put_mid at ((len + 1) - at) old turned) at x) ≡ drop (len + 1) old
     pushed_drop = ap (drop (len + 1)) (set_mid old turned at ((len + 1) - at) x (omega arith) turned_some) ∙ drop-put_mid at ((len + 1) - at) old part (len + 1) (omega arith) (omega arith) part_length
-
-  -- the first of n places brought behind the others
-  module _ (old : List X) (n : ℕ) (x : X) (some : 0 < n) (le : n ≤ length old) (read : x ≡ get_or old 0 x) (part : List X) (turned : part ≡ drop 1 (take n old) ++ take 1 (take n old)) where
-    front_is : take n old ≡ x ∷ drop 1 (take n old)
-    front_is =
-        let l : 0 < length (take n old) = simp length-take (omega arith) in
-        drop_more (take n old) 0 x l ∙ ap (λ y. y ∷ drop 1 (take n old)) (get_or-take n old 0 x some ∙ sym read)
-
-    rest_length : length (drop 1 (take n old)) ≡ n - 1
-    rest_length = simp (length-drop, length-take) (omega arith)
-
-    new_is : part ++ drop n old ≡ drop 1 (take n old) ++ x ∷ drop n old
-    new_is = ap (λ ys. ys ++ drop n old) turned ∙ append_assoc (drop 1 (take n old)) (take 1 (take n old)) (drop n old) ∙ ap (λ ys. drop 1 (take n old) ++ (take 1 ys ++ drop n old)) front_is
-
-    pub turned_take : take n old ≡ x ∷ take (n - 1) (part ++ drop n old)
-    turned_take = front_is ∙ ap (λ ys. x ∷ ys) (sym (take_at (drop 1 (take n old)) (x ∷ drop n old) (n - 1) rest_length) ∙ ap (take (n - 1)) (sym new_is))
-
-    pub turned_drop : drop (n - 1) (part ++ drop n old) ≡ x ∷ drop n old
-    turned_drop = ap (drop (n - 1)) new_is ∙ drop_at (drop 1 (take n old)) (x ∷ drop n old) (n - 1) rest_length

@@ -10,7 +10,6 @@ use Rattle.model.specs.Calls.{Decide, decision}
 use Rattle.model.specs.Stamping.{stampable}
 use Rattle.model.specs.Refusals.{◌when◌else◌, cuts_fit}
 use Rattle.ports.specs.Ports.{deciding_fault}
-use Rattle.ports.proofs.Cuts.{every_at}
 
 -- tests that did not refuse
 past : (f : NetFault) (b : Bool) (next : Option NetFault) → f when b else next ≡ None → (b ≡ false) × (next ≡ None)
@@ -33,16 +32,5 @@ module _ (o : PortView) (x : Decide) (none : deciding_fault o x ≡ None) where
   pub number_low : x.number ≤ 65535
   number_low = ltb-false _ _ (or_parts _ _ after_number.0).1
 
-  cuts_fit_lem : cuts_fit o x.cuts ≡ true
-  cuts_fit_lem = not-false _ after_cuts.0
-
   pub own_fit : count_from x.port o.waiting + length (sent_to x.port (decision o x)) ≤ 8
   own_fit = ltb-false _ _ (past OwnWaitingFull _ None after_steps.1).0
-
-  -- a dispatcher's cut is at most the last count that he was given; beyond the four there is none
-  pub cut_given : length x.cuts ≡ 4 → (d : ℕ) → get_or x.cuts d 0 ≤ o.given d
-  cut_given four d =
-      ⊎_elim
-      (λ lt. leb-true _ _ (and_parts _ _ (every_at (λ d. leb (o.settled d) (get_or x.cuts d 0) && leb (get_or x.cuts d 0) (o.given d)) 4 d cuts_fit_lem lt)).1)
-      (λ le. omega (arith, get_or_past x.cuts d 0 (omega arith)))
-      (cases_lt d 4)

@@ -22,12 +22,3 @@ module _ {X : Type 0} where
       let both = and_parts (all_pass (p x) xs) (pairs_pass p xs) h in
       let rest = pairs_kept p t xs both.1 in
       cond_both (t x) (x ∷ filter t xs) (filter t xs) (λ ys. pairs_pass p ys ≡ true) (λ e. and_from (all_pass (p x) (filter t xs)) (pairs_pass p (filter t xs)) (all_kept (p x) t xs both.0) rest) (λ e. rest)
-
-  -- the part of the front that a call has left, and what stood behind it
-  pub front_kept : (f : List X → List X) (old part : List X) (len r : ℕ) → length part ≡ length (take (len - 0) old) → take r part ≡ f (take (len - 0) old) → r ≤ length (take (len - 0) old) → take r (part ++ drop (len - 0) old) ≡ f (take len old)
-  front_kept f old part len r long e few =
-      let z : len - 0 ≡ len = omega arith in
-      take-append-le r part (drop (len - 0) old) (omega arith) ∙ e ∙ ap (λ n. f (take n old)) z
-
-  pub front_long : (old part : List X) (n : ℕ) → length part ≡ length (take n old) → length (part ++ drop n old) ≡ length old
-  front_long old part n long = length-append part (drop n old) ∙ ap (λ k. k + length (drop n old)) long ∙ sym (length-append (take n old) (drop n old)) ∙ ap length (take-append-drop n old)
