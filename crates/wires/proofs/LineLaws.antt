@@ -1,5 +1,5 @@
 -- What users of a wire need to know of its lines. Assumes nothing.
-use Rattle.std.proofs.Common.{◌≡◌, ℕ, ◌<◌, true, not, ◌&&◌, eqb, ltb, length, Ok, Err, Result, sym, subst, ⊎_elim, arith}
+use Rattle.std.proofs.Common.{◌≡◌, ℕ, ◌<◌, true, not, ◌&&◌, eqb, ltb, length, Ok, Err, Result, IsOk, refl, sym, subst, ⊎_elim, arith}
 use Rattle.std.proofs.lemmas.Bool.{cases_eq, and_parts, ltb-true, eqb-false, not-true}
 use Rattle.records.specs.declared.fault.NetFault.{NetFault}
 use Rattle.records.specs.declared.notice.Record.{Record}
@@ -16,6 +16,10 @@ line_ports p q e =
 pub put_since_space : {X : Type 0} (d : ℕ) (old new : Lines) (a b : ℕ) (x : Record) (r : Result X NetFault) → PutAnswers d old new a b x r → length (old a b).held < depth_of d a b → Put d old new a b x
 put_since_space d old new a b x (Ok y) h l = h
 put_since_space d old new a b x (Err y) h l = absurd (omega (arith, h.1.full))
+
+pub ok_since_space : {X : Type 0} (d : ℕ) (old new : Lines) (a b : ℕ) (x : Record) (r : Result X NetFault) → PutAnswers d old new a b x r → length (old a b).held < depth_of d a b → IsOk r
+ok_since_space d old new a b x (Ok y) h l = refl
+ok_since_space d old new a b x (Err y) h l = absurd (omega (arith, h.1.full))
 
 -- what holds of the line from a to b, and of every other, holds of all
 pub by_line : (a b : ℕ) (P : ℕ → ℕ → Type 0) → P a b → ((p q : ℕ) → ((p ≡ a) × (q ≡ b) → ⊥) → P p q) → (p q : ℕ) → P p q
