@@ -23,10 +23,7 @@ fn reaches<W: Wire>(rt: &impl Abort, wire: &mut W, bits: u8, depth: usize) {
             let ends = Ends { from: 3, to };
             wire.bring(ends);
             let named = bits >> to & 1 == 1;
-            assert_eq!(rt;
-                wire.take(ends),
-                if named { Some(sample()) } else { None }
-            );
+            assert_eq!(rt; wire.take(ends), if named { Some(sample()) } else { None });
             assert_eq!(rt; wire.free(ends), depth);
         }
     }
@@ -67,10 +64,7 @@ fn refuses<W: Wire>(rt: &impl Abort, wire: &mut W, depth: u8) {
             assert_eq!(rt; wire.free(Ends { from: 3, to }), room);
         }
     }
-    assert_eq!(rt;
-        send(wire, 3, Mask { bits: 119 }, sample()),
-        Ok(())
-    );
+    assert_eq!(rt; send(wire, 3, Mask { bits: 119 }, sample()), Ok(()));
     assert_eq!(rt; send(wire, 8, Mask { bits: 0 }, sample()), Ok(()));
     assert_eq!(rt; wire.free(Ends { from: 3, to: 6 }).wrapping_add(1), room);
     assert_eq!(rt; wire.free(Ends { from: 3, to: 7 }), 0);

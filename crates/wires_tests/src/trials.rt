@@ -12,7 +12,10 @@ use wires::wire::Wire;
 pub fn numbered(ends: Ends, k: u8) -> Record {
     let clock = ends.from as u32 * 65_536 + ends.to as u32 * 256 + k as u32;
     let pair = Pair { clock, step: 0 };
-    Record::Empty(Stamp { pair, port: ends.from })
+    Record::Empty(Stamp {
+        pair,
+        port: ends.from,
+    })
 }
 
 pub fn put_all<W: Wire>(rt: &impl Abort, wire: &mut W, ends: Ends, many: u8) {
@@ -78,10 +81,7 @@ fn is_empty<W: Wire>(rt: &impl Abort, wire: &mut W, depth: u8) {
 // A pair of numbers that is no line: a port and itself, or a number above 7.
 fn no_line<W: Wire>(rt: &impl Abort, wire: &mut W, ends: Ends) {
     assert_eq!(rt; wire.free(ends), 0);
-    assert_eq!(rt;
-        wire.put(ends, numbered(ends, 0)),
-        Err(NetFault::LineFull)
-    );
+    assert_eq!(rt; wire.put(ends, numbered(ends, 0)), Err(NetFault::LineFull));
     wire.bring(ends);
     assert_eq!(rt; wire.look(ends), None);
     assert_eq!(rt; wire.take(ends), None);
@@ -89,12 +89,33 @@ fn no_line<W: Wire>(rt: &impl Abort, wire: &mut W, ends: Ends) {
 
 fn no_lines<W: Wire>(rt: &impl Abort, wire: &mut W) {
     for port in 0..=255u8 {
-        no_line(rt, wire, Ends { from: port, to: port });
+        no_line(
+            rt,
+            wire,
+            Ends {
+                from: port,
+                to: port,
+            },
+        );
     }
     for port in 0..8u8 {
         for other in [8u8, 9, 63, 64, 255] {
-            no_line(rt, wire, Ends { from: port, to: other });
-            no_line(rt, wire, Ends { from: other, to: port });
+            no_line(
+                rt,
+                wire,
+                Ends {
+                    from: port,
+                    to: other,
+                },
+            );
+            no_line(
+                rt,
+                wire,
+                Ends {
+                    from: other,
+                    to: port,
+                },
+            );
         }
     }
     no_line(rt, wire, Ends { from: 8, to: 255 });

@@ -34,7 +34,7 @@ impl<W: Wire, B: Board> Net<W, B> {
         if !self.ports[at].takes(source, record) {
             return Err(NetFault::SourceWaitingFull);
         }
-        let _ = self.ports[at].admit(source, record);
+        self.ports[at].admit(source, record).unwrap();
         self.wire.take(ends).unwrap();
         Ok(())
     }
