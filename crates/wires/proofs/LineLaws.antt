@@ -3,7 +3,7 @@ use Rattle.std.proofs.Common.{◌≡◌, ℕ, ◌<◌, true, not, ◌&&◌, eqb,
 use Rattle.std.proofs.lemmas.Bool.{cases_eq, and_parts, ltb-true, eqb-false, not-true}
 use Rattle.records.specs.declared.fault.NetFault.{NetFault}
 use Rattle.records.specs.declared.notice.Record.{Record}
-use Rattle.wires.specs.Lines.{Lines, is_line, depth_of, Same, SameBut, Put, PutAnswers}
+use Rattle.wires.specs.Lines.{Lines, is_line, depth_of, Put, PutAnswers}
 
 -- the two ports of a line
 pub line_ports : (p q : ℕ) → is_line p q ≡ true → (p < 8) × (q < 8) × (p ≡ q → ⊥)
@@ -32,7 +32,3 @@ by_line a b P here other p q =
     (cases_eq q b))
     (λ (np : p ≡ a → ⊥). other p q (λ h. np h.0))
     (cases_eq p a)
-
--- the one line that may differ does not
-pub same_from_but : (old new : Lines) (a b : ℕ) → SameBut old new a b → new a b ≡ old a b → Same old new
-same_from_but old new a b but e = by_line a b (λ p q. new p q ≡ old p q) e but

@@ -1,4 +1,4 @@
-use Rattle.std.proofs.Common.{◌≡◌, ℕ, true, false, refl, arith, rules}
+use Rattle.std.proofs.Common.{◌≡◌, ℕ, true, false, arith, rules}
 use borrow.Author.Tests.{tests}
 use Rattle.std.proofs.lemmas.Iterator.{cases_from_all, YieldsList-from_range}
 use Rattle.wires.proofs.Ports.{all_below}
@@ -14,4 +14,4 @@ returns g c =
     let No : ℕ → Type 0 = λ q. t q ≡ false in
     every_is 8 t c.all.result
     (all_below 8 Yes No c.all.result
-    (cases_from_all _ _ _ Yes No c.all.ensures.ran (YieldsList-from_range 0 8 8 refl (omega arith)) (λ x q k. search (rules, tests)) (λ x q k. search (rules, tests))))
+    (cases_from_all _ _ _ Yes No c.all.ensures.ran (YieldsList-from_range 0 8 8 (search rules) (omega arith)) (λ x q k. search (rules, tests)) (λ x q k. search (rules, tests))))

@@ -3,12 +3,9 @@ use Rattle.records.specs.declared.notice.Record.TheVariants.{Notice as Carries}
 use Rattle.wires.specs.Growths.{Grown}
 use Rattle.wires.proofs.Growths.{below}
 use Rattle.wires.proofs.LineLaws.{ok_since_space, put_since_space}
-use Rattle.sends.proofs.Copies.{copies, gets, first_none, first_all, first_skip, first_put, first_space}
+use Rattle.sends.proofs.Copies.{copies, gets, first_all, first_skip, first_put, first_space}
 use Rattle.sends.proofs.sending.put_copies.Goals as goal
 use Rattle.sends.proofs.sending.put_copies.Goals.{then-is_copied, else-is_copied}
-
-pub loop-to-init : goal.loop-to-init
-loop-to-init g c = first_none c.args.port c.args.notice (g.W.Wire.line c.args.wire.now)
 
 pub unwrap-requires : goal.unwrap-requires
 unwrap-requires g c =

@@ -1,4 +1,4 @@
-use Rattle.std.proofs.Common.{ℕ, refl, arith, rules}
+use Rattle.std.proofs.Common.{ℕ, arith, rules}
 use borrow.Author.Tests.{tests}
 use Rattle.std.proofs.lemmas.Iterator.{cases_from_all, YieldsList-from_range}
 use Rattle.wires.proofs.Ports.{all_below}
@@ -15,4 +15,4 @@ returns g c =
     let No : ℕ → Type 0 = Blocked m.depth lines a mask in
     space_cases m.depth lines a mask (omega arith) c.all.result
     (all_below 8 Yes No c.all.result
-    (cases_from_all _ _ _ Yes No c.all.ensures.ran (YieldsList-from_range 0 8 8 refl (omega arith)) (λ x q k. search (rules, tests)) (λ x q k. search (rules, tests))))
+    (cases_from_all _ _ _ Yes No c.all.ensures.ran (YieldsList-from_range 0 8 8 (search rules) (omega arith)) (λ x q k. search (rules, tests)) (λ x q k. search (rules, tests))))
