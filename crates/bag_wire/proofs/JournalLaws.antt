@@ -1,9 +1,8 @@
 -- What the lines of a journal are after a push, a removal and a marking. Assumes nothing.
-use Rattle.std.proofs.Common.{◌≡◌, ℕ, suc, ◌+◌, ◌<◌, ◌≤◌, Bool, true, false, cond, eqb, List, [], ◌∷◌, ◌++◌, map, length, get_or, take, drop, Some, None, filter, Option, sym, refl, ap, ◌∙◌, ⊎_elim, arith}
-use Rattle.std.specs.List.{prefix_len}
+use Rattle.std.proofs.Common.{◌≡◌, ℕ, suc, ◌+◌, ◌<◌, ◌≤◌, Bool, true, false, cond, eqb, List, [], ◌∷◌, ◌++◌, map, length, get_or, take, drop, Some, None, filter, Option, MatchOption, sym, refl, ap, ◌∙◌, ⊎_elim, arith}
+use Rattle.std.specs.List.{prefix_len, AllWithin, HoldsAt}
 use Rattle.std.proofs.lemmas.List.{append-nil, length-map, length-append, length-take-le, map-append, length_push, take-append-drop, drop_more, get_or-take}
 use Rattle.std.proofs.lemmas.List.Elements.{filter-append}
-use Rattle.std.proofs.lemmas.List.Filters.{length-filter_more}
 use Rattle.std.proofs.lemmas.List.Sums.{prefix_len-le-length}
 use Rattle.std.proofs.lemmas.Bool.{cases_Bool, cond-true, cond-false, cond_both, and_parts, and_from, eqb-true, eq-eqb}
 use Rattle.records.specs.declared.notice.Record.{Record}
@@ -17,8 +16,7 @@ use Rattle.bag_wire.specs.Journals.{on, kept, line_of, lines_in, Sound, shown, m
 -- an entry of zeros, for reads at a place that may be past the end
 abbrev pub blank : Entry
 blank = record {
-  from = 0;
-  to = 0;
+  ends = record { from = 0; to = 0 };
   item = Notice (record {
     notice = record { source = 0; dispatcher = 0; count = 0; to = record { bits = 0 }; home = 0; berth = 0; action = Take; vessel = 0 };
     stamp = record { pair = record { clock = 0; step = 0 }; port = 0 };
@@ -26,17 +24,13 @@ blank = record {
   arrived = false;
 }
 
--- one entry more is counted, or not
-pub count_more : (es : List Entry) (p q i : ℕ) (d : Entry) → i < length es → (t : Bool) → on p q (get_or es i d) ≡ t → length (kept (take (i + 1) es) p q) ≡ length (kept (take i es) p q) + cond t 1 0
-count_more es p q i d h t e = length-filter_more (on p q) es i d h ∙ ap (λ b. length (kept (take i es) p q) + cond b 1 0) e
-
 -- ---- an entry is on one line
 
-on_is : (e : Entry) (p q : ℕ) → on p q e ≡ true → (e.from ≡ p) × (e.to ≡ q)
-on_is e p q t = let h = and_parts (eqb e.from p) (eqb e.to q) t in (eqb-true e.from p h.0, eqb-true e.to q h.1)
+on_is : (e : Entry) (p q : ℕ) → on p q e ≡ true → (e.ends.from ≡ p) × (e.ends.to ≡ q)
+on_is e p q t = let h = and_parts (eqb e.ends.from p) (eqb e.ends.to q) t in (eqb-true e.ends.from p h.0, eqb-true e.ends.to q h.1)
 
-pub on_from : (e : Entry) (p q : ℕ) → e.from ≡ p → e.to ≡ q → on p q e ≡ true
-on_from e p q h k = and_from (eqb e.from p) (eqb e.to q) (eq-eqb e.from p h) (eq-eqb e.to q k)
+pub on_from : (e : Entry) (p q : ℕ) → e.ends.from ≡ p → e.ends.to ≡ q → on p q e ≡ true
+on_from e p q h k = and_from (eqb e.ends.from p) (eqb e.ends.to q) (eq-eqb e.ends.from p h) (eq-eqb e.ends.to q k)
 
 on_apart : (e : Entry) (a b p q : ℕ) → on a b e ≡ true → ((p ≡ a) × (q ≡ b) → ⊥) → on p q e ≡ false
 on_apart e a b p q t ne =
@@ -93,6 +87,11 @@ kept_by_none f (x ∷ xs) h =
 pub none_on : (es : List Entry) (p q : ℕ) → ((k : ℕ) (d : Entry) → k < length es → on p q (get_or es k d) ≡ false) → kept es p q ≡ []
 none_on es p q h = kept_by_none (on p q) es h
 
+-- what a search for the line's oldest entry answers
+pub first_cases : (es : List Entry) (p q : ℕ) (r : Option ℕ) → MatchOption r (AllWithin (λ e. on p q e ≡ false) es 0 (length es)) (λ i. (i < length es) × HoldsAt (λ e. on p q e ≡ true) es i × AllWithin (λ e. on p q e ≡ false) es 0 i) → MatchOption r (kept es p q ≡ []) (First es p q)
+first_cases es p q None h = none_on es p q (λ k d lt. h k d (omega arith) lt)
+first_cases es p q (Some i) h = record { within = h.0; before = λ k d lt. h.2 k d (omega arith) lt; here = h.1 }
+
 -- the first entry of the line from p to q is at i
 module _ (es : List Entry) (p q i : ℕ) (at : First es p q i) (d : Entry) where
   front_none : kept (take i es) p q ≡ []
@@ -145,26 +144,17 @@ module _ (es : List Entry) (p q i : ℕ) (at : First es p q i) (d : Entry) where
 
 -- what an entry shows
 pub shown_some : (e : Entry) (x : Record) → Some x ≡ shown e → (e.arrived ≡ true) × (e.item ≡ x)
-shown_some e x = cond_both e.arrived (Some e.item) None (λ o. Some x ≡ o → (e.arrived ≡ true) × (e.item ≡ x)) (λ t h. (t, is h)) (λ f h. absurd (never h))
-  where
-    is : Some x ≡ Some e.item → e.item ≡ x
-    is h = cc
-
-    never : ◌≡◌ {A = Option Record} (Some x) None → ⊥
-    never h = let z : ◌≡◌ {A = ℕ} 0 1 = cc in omega arith
+shown_some e x = cond_both e.arrived (Some e.item) None (λ o. Some x ≡ o → (e.arrived ≡ true) × (e.item ≡ x)) (λ t h. (t, cc)) (λ f h. cc)
 
 pub shown_none : (e : Entry) → None ≡ shown e → e.arrived ≡ false
-shown_none e = cond_both e.arrived (Some e.item) None (λ o. None ≡ o → e.arrived ≡ false) (λ t h. absurd (never h)) (λ f h. f)
-  where
-    never : ◌≡◌ {A = Option Record} None (Some e.item) → ⊥
-    never h = let z : ◌≡◌ {A = ℕ} 0 1 = cc in omega arith
+shown_none e = cond_both e.arrived (Some e.item) None (λ o. None ≡ o → e.arrived ≡ false) (λ t h. cc) (λ f h. f)
 
 -- ---- a marking
 
 module _ (a b : ℕ) where
   -- what a marking leaves alone
-  marked_keeps : {A : Type 0} (f : Entry → A) (e : Entry) → f (record { from = e.from; to = e.to; item = e.item; arrived = true }) ≡ f e → f (marked a b e) ≡ f e
-  marked_keeps f e same = elim (on a b e) as (λ t. f (cond t (record { from = e.from; to = e.to; item = e.item; arrived = true }) e) ≡ f e) [
+  marked_keeps : {A : Type 0} (f : Entry → A) (e : Entry) → f (record { ends = e.ends; item = e.item; arrived = true }) ≡ f e → f (marked a b e) ≡ f e
+  marked_keeps f e same = elim (on a b e) as (λ t. f (cond t (record { ends = e.ends; item = e.item; arrived = true }) e) ≡ f e) [
     | true ↦ same
     | false ↦ refl
   ]

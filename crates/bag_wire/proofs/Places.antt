@@ -12,7 +12,7 @@ use Rattle.bag_wire.specs.Journals.{on, Sound}
 use Rattle.bag_wire.proofs.JournalLaws.{blank, on_from}
 
 abbrev place : Entry → ℕ
-place e = e.from * 8 + e.to
+place e = e.ends.from * 8 + e.ends.to
 
 abbrev past : ℕ → Entry → Bool
 past n e = leb n (place e)
@@ -24,7 +24,7 @@ abbrev depth_at : ℕ → ℕ
 depth_at k = depth_of 8 (k / 8) (k % 8)
 
 abbrev Valid : Entry → Type 0
-Valid e = (e.from < 8) × (e.to < 8)
+Valid e = (e.ends.from < 8) × (e.ends.to < 8)
 
 depth_line : (p q : ℕ) → 1 ≤ depth_of 8 p q → (p < 8) × (q < 8)
 depth_line p q h =
@@ -36,9 +36,9 @@ depth_line p q h =
 valid : (es : List Entry) → Sound es → AllByRecursion Valid es
 valid es s = All-from_get_or Valid es blank (λ i h.
     let e = get_or es i blank in
-    let one = cond-true {A = ℕ} (on e.from e.to e) 1 0 (on_from e e.from e.to refl refl) in
-    let some = get_or-le-sum_by (λ x. cond (on e.from e.to x) 1 0) es i blank h in
-    depth_line e.from e.to (omega (arith, one, some, length-filter (on e.from e.to) es, s e.from e.to)))
+    let one = cond-true {A = ℕ} (on e.ends.from e.ends.to e) 1 0 (on_from e e.ends.from e.ends.to refl refl) in
+    let some = get_or-le-sum_by (λ x. cond (on e.ends.from e.ends.to x) 1 0) es i blank h in
+    depth_line e.ends.from e.ends.to (omega (arith, one, some, length-filter (on e.ends.from e.ends.to) es, s e.ends.from e.ends.to)))
 
 split_one : (n m : ℕ) → cond (leb n m) 1 0 ≡ cond (eqb n m) 1 0 + cond (leb (n + 1) m) 1 0
 split_one n m = grind (arith, nat_tests)

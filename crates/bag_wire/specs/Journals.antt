@@ -7,11 +7,11 @@ use Rattle.bag_wire.specs.declared.entry.Entry.{Entry}
 
 -- the entry that puts x on the line from p to q: it has not arrived
 abbrev pub put : ℕ → ℕ → Record → Entry
-put p q x = record { from = p; to = q; item = x; arrived = false }
+put p q x = record { ends = record { from = p; to = q }; item = x; arrived = false }
 
 -- is the entry on the line from p to q
 abbrev pub on : ℕ → ℕ → Entry → Bool
-on p q e = e.from == p && e.to == q
+on p q e = e.ends.from == p && e.ends.to == q
 
 -- the entries of the line from p to q, in the journal's order
 abbrev pub kept : List Entry → ℕ → ℕ → List Entry
@@ -34,7 +34,7 @@ shown e = cond e.arrived (Some e.item) None
 
 -- the entry, marked if it is on the line
 abbrev pub marked : ℕ → ℕ → Entry → Entry
-marked p q e = cond (on p q e) (record { from = e.from; to = e.to; item = e.item; arrived = true }) e
+marked p q e = cond (on p q e) (record { ends = e.ends; item = e.item; arrived = true }) e
 
 -- the first entry of the line is at i
 pub record First (es : List Entry) (p q i : ℕ) : Type 0 where

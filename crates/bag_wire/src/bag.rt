@@ -1,15 +1,93 @@
 // A wire of one journal for all lines.
-ghost use Rattle.std.specs.Prelude.{◌≡◌, ◌≤◌, length, take};
-ghost use Rattle.bag_wire.specs.Journals.{Sound};
+ghost use Rattle.std.specs.Prelude.{◌≡◌, ℕ, length, refl};
+ghost use Rattle.bag_wire.specs.Fits.{arrived_fits, held_fits};
+ghost use Rattle.bag_wire.specs.Journals.{kept, Sound};
+ghost use Rattle.wires.specs.Lines.{depth_of, PutAnswers, Brought, Emptied};
+ghost use Rattle.std.proofs.lemmas.Bool.{leb-true};
 
 use crate::entry::Entry;
+use crate::journal::{count, first, mark};
+use arrayvec::ArrayVec;
+use records::fault::NetFault;
+use records::notice::Record;
+use wires::ends::Ends;
+use wires::wire::Wire;
 
-pub mod wire;
-
-// The journal is the first `len` entries. Eight on each of 56 lines fill it.
+// The entries of all lines, in the order of putting. Eight on each of 56 lines fill it.
 #[derive(Drop)]
 pub struct BagWire {
-    entries: [Entry; 448],
-    len: usize,
-    ghost ok: { (length entries ≡ 448) × (len ≤ 448) × Sound (take len entries) },
+    journal: ArrayVec<Entry, 448>,
+    ghost sound: { Sound journal.items },
+}
+
+impl BagWire {
+    ghost use Rattle.bag_wire.specs.Bags.{bag_lines};
+
+    pub fn new() -> BagWire
+        ensures { Emptied (bag_lines result) }
+    {
+        BagWire {
+            journal: ArrayVec::new(),
+        }
+    }
+}
+
+// How many records the line can hold.
+fn depth(ends: Ends) -> usize
+    ensures { result ≡ depth_of 8 ends.from ends.to }
+{
+    if ends.is_line() { 8 } else { 0 }
+}
+
+// Beyond what every wire promises: a put lets nothing arrive, and a bring lets all of its line arrive.
+impl Wire for BagWire {
+    ghost use Rattle.bag_wire.specs.Bags.{bag_lines};
+
+    ghost line = { bag_lines };
+
+    ghost depth = { 8 };
+
+    ghost depths = { (leb-true 4 8 refl, leb-true 8 16 refl) };
+
+    ghost arrived = { λ w p q. arrived_fits (kept w.journal.items p q) };
+
+    ghost fits = { λ w p q. held_fits (kept w.journal.items p q) _ (w.sound p q) };
+
+    fn put(&mut self, ends: Ends, record: Record) -> Result<(), NetFault>
+        ensures does { PutAnswers 8 (bag_lines self.old) (bag_lines self.new) ends.from ends.to «record» result }
+        ensures waits { (bag_lines self.new ends.from ends.to).arrived ≡ (bag_lines self.old ends.from ends.to).arrived }
+    {
+        if self.free(ends) == 0 {
+            return Err(NetFault::LineFull);
+        }
+        self.journal.push(Entry::fresh(ends, record));
+        Ok(())
+    }
+
+    fn look(&self, ends: Ends) -> Option<Record> {
+        let i = first(&self.journal, ends)?;
+        self.journal[i].shown()
+    }
+
+    fn take(&mut self, ends: Ends) -> Option<Record> {
+        let i = first(&self.journal, ends)?;
+        let record = self.journal[i].shown()?;
+        self.journal.remove(i);
+        Some(record)
+    }
+
+    fn bring(&mut self, ends: Ends)
+        ensures does { Brought (bag_lines self.old) (bag_lines self.new) ends.from ends.to }
+        ensures all { (bag_lines self.new ends.from ends.to).arrived ≡ length (bag_lines self.new ends.from ends.to).held }
+    {
+        mark(&mut self.journal, ends);
+    }
+
+    fn free(&self, ends: Ends) -> usize {
+        depth(ends) - count(&self.journal, ends)
+    }
+
+    fn empty(&mut self) {
+        self.journal.clear();
+    }
 }

@@ -3,39 +3,46 @@ ghost use Rattle.bag_wire.specs.Journals.{on, put, shown};
 ghost use Rattle.std.specs.Prelude.{◌≡◌};
 
 use records::notice::Record;
+use wires::ends::Ends;
+use wires::wire::BLANK;
 
 #[derive(Clone, Copy)]
 pub struct Entry {
-    pub from: u8,
-    pub to: u8,
+    pub ends: Ends,
     pub item: Record,
     pub arrived: bool,
 }
 
+// What stands in a place of the journal that is not in use.
+impl Default for Entry {
+    fn default() -> Entry {
+        Entry::fresh(Ends { from: 0, to: 0 }, BLANK)
+    }
+}
+
 impl Entry {
     // A record as it is put: it has not arrived.
-    pub fn fresh(from: u8, to: u8, item: Record) -> Entry
-        ensures { result ≡ put from to item }
+    pub fn fresh(ends: Ends, item: Record) -> Entry
+        ensures { result ≡ put ends.from ends.to item }
     {
         Entry {
-            from,
-            to,
+            ends,
             item,
             arrived: false,
         }
     }
 
     // Whether it is on the line.
-    pub fn is_on(&self, from: u8, to: u8) -> bool
-        ensures { result ≡ on from to self.now }
+    pub fn is_on(&self, ends: Ends) -> bool
+        ensures { result ≡ on ends.from ends.to self.now }
     {
-        (self.from == from) & (self.to == to)
+        self.ends == ends
     }
 
     // Its record, if that has arrived.
     pub fn shown(&self) -> Option<Record>
         ensures { result ≡ shown self.now }
     {
-        if self.arrived { Some(self.item) } else { None }
+        self.arrived.then_some(self.item)
     }
 }

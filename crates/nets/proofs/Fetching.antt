@@ -1,5 +1,5 @@
 -- When a fetch is refused, and when not. Assumes nothing.
-use Rattle.std.proofs.Common.{◌≡◌, ℕ, ◌<◌, Bool, true, false, cond, not, ◌&&◌, ◌||◌, eqb, ltb, leb, List, ◌∷◌, Some, None, Ok, Err, Option, Result, sym, refl, ap, ◌∙◌, subst, arith}
+use Rattle.std.proofs.Common.{◌≡◌, ℕ, ◌<◌, Bool, true, false, cond, not, ◌&&◌, ◌||◌, eqb, ltb, leb, List, ◌∷◌, Some, None, Ok, IsOk, Err, Option, Result, sym, refl, ap, ◌∙◌, subst, arith}
 use mathlib.Core.List.Memᴰ
 use Rattle.std.proofs.lemmas.Bool.{eq-eqb, ne_eqb, le-ltb, cond-true, cond-false}
 use Rattle.records.specs.declared.fault.NetFault.{NetFault}
@@ -83,11 +83,15 @@ oldest_in l x a = subst (In x) (sym a.oldest.1) (here_in x a.oldest.0)
     here_in : (x : Record) (xs : List Record) → In x (x ∷ xs)
     here_in x xs = Memᴰ.head refl
 
--- a record that the port can take is admitted
-pub admitted : (p q : Port) (source : ℕ) (x : Record) (r : Result (Unit {0}) NetFault) → source < 8 → misfits p.own source x (port_view p).waiting ≡ false → Admits p q source x r → Became p q (after_fetch source x (port_view p))
-admitted p q source x (Ok u) lt e a = a.1
-admitted p q source x (Err f) lt e a =
+-- a record that the port can take is not refused, and is admitted
+pub admit_ok : (p q : Port) (source : ℕ) (x : Record) (r : Result (Unit {0}) NetFault) → source < 8 → misfits p.own source x (port_view p).waiting ≡ false → Admits p q source x r → IsOk r
+admit_ok p q source x (Ok u) lt e a = refl
+admit_ok p q source x (Err f) lt e a =
     let none : admit_fault p source x ≡ None = passes NoSuchPort (ltb 7 source) _ (le-ltb 7 source (omega arith)) ∙ passes SourceWaitingFull (misfits p.own source x (port_view p).waiting) None e in
     let bad = sym none ∙ a.0 in
     let z : ◌≡◌ {A = ℕ} 0 1 = cc in
     absurd (omega arith)
+
+pub admitted : (p q : Port) (source : ℕ) (x : Record) (r : Result (Unit {0}) NetFault) → source < 8 → misfits p.own source x (port_view p).waiting ≡ false → Admits p q source x r → Became p q (after_fetch source x (port_view p))
+admitted p q source x (Ok u) lt e a = a.1
+admitted p q source x (Err f) lt e a = absurd (let no = admit_ok p q source x (Err f) lt e a in let z : ◌≡◌ {A = ℕ} 0 1 = cc in omega arith)

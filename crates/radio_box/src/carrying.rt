@@ -5,6 +5,7 @@ use crate::outcome::Carried;
 use crate::sample::sample_of;
 use events::event::Event;
 use records::reach::Reach;
+use wires::ends::Ends;
 use wires::sending::send;
 use wires::wire::Wire;
 
@@ -14,13 +15,16 @@ pub fn carry<W: Wire>(wire: &mut W, table: &Reach, event: Event) -> Carried
 {
     match event {
         Event::Bring { from, to } => {
-            wire.bring(from, to);
+            wire.bring(Ends { from, to });
             Carried::Brought
         }
-        Event::Fetch { port, source } => match wire.take(source, port) {
-            Some(record) => Carried::Took(record),
-            None => Carried::Nothing,
-        },
+        Event::Fetch { port, source } => {
+            let ends = Ends {
+                from: source,
+                to: port,
+            };
+            wire.take(ends).map_or(Carried::Nothing, Carried::Took)
+        }
         _ => match sample_of(table, event) {
             Some(sample) => match send(wire, sample.from, sample.to, sample.record) {
                 Ok(()) => Carried::Sent(sample.to),

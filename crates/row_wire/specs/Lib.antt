@@ -1,3 +1,3 @@
 pub mod Rings
 pub mod Rows
-pub mod Fits
+pub mod RowLines

@@ -1,29 +1,35 @@
--- What a row of rings means as the lines of a wire. Assumes nothing.
-use Rattle.std.specs.Prelude.{◌≡◌, ℕ, ◌+◌, ◌*◌, cond, List, [], map, length, Some, None, Option, slice_index_or}
+-- What a row of rings, each the list of its records, means as the lines of a wire. Assumes nothing.
+use Rattle.std.specs.Prelude.{◌≡◌, ℕ, ◌+◌, ◌*◌, ◌≤◌, true, false, cond, List, [], length, Some, None, Option, slice_index_or, refl}
+use Rattle.std.proofs.lemmas.Bool.{leb-true}
 use Rattle.records.specs.declared.notice.Record.{Record}
-use Rattle.wires.specs.Lines.{Line, Lines, is_line}
-use Rattle.row_wire.specs.declared.ring.Ring.{Ring}
-use Rattle.row_wire.specs.declared.rows.RowWire.{RowWire}
-use Rattle.row_wire.specs.Rings.{held}
+use Rattle.wires.specs.Lines.{Line, Lines, is_line, depth_of}
 
 -- where the ring of the line from p to q lies, if there is such a line
 abbrev pub place_of : ℕ → ℕ → Option ℕ
 place_of p q = cond (is_line p q) (Some (p * 8 + q)) None
 
 -- what the line from p to q holds
-abbrev pub held_at : List Ring → ℕ → ℕ → List Record
-held_at rings p q = cond (is_line p q) (slice_index_or (map held rings) (p * 8 + q) []) []
+abbrev pub held_at : List (List Record) → ℕ → ℕ → List Record
+held_at rings p q = cond (is_line p q) (slice_index_or rings (p * 8 + q) []) []
 
 -- a line on which all has arrived
 abbrev pub all_here : List Record → Line
 all_here xs = record { held = xs; arrived = length xs }
 
-abbrev pub lines_of : List Ring → Lines
+abbrev pub lines_of : List (List Record) → Lines
 lines_of rings p q = all_here (held_at rings p q)
-
-abbrev pub row_lines : RowWire → Lines
-row_lines w = lines_of w.rings
 
 -- all that the lines hold has arrived
 abbrev pub AllArrived : Lines → Type 0
 AllArrived lines = (p q : ℕ) → (lines p q).arrived ≡ length (lines p q).held
+
+-- no ring holds more than sixteen
+abbrev pub Sound : List (List Record) → Type 0
+Sound rings = (k : ℕ) → length (slice_index_or rings k []) ≤ 16
+
+-- so no line does, and what is no line holds nothing
+pub line_fits : (rings : List (List Record)) → Sound rings → (p q : ℕ) → length (held_at rings p q) ≤ depth_of 16 p q
+line_fits rings s p q = elim (is_line p q) as (λ b. length (cond b (slice_index_or rings (p * 8 + q) []) []) ≤ cond b 16 0) [
+  | true ↦ s (p * 8 + q)
+  | false ↦ leb-true 0 0 refl
+]

@@ -1,7 +1,7 @@
 // The row wire: a ring for each line, on which a record put has arrived.
 #![tactic(auto)]
 
-mod ring; // one line's records, in sixteen slots that are used in turn
+mod ring; // a queue in slots that are used in turn
 pub mod rows; // the wire
 
 pub use rows::RowWire;

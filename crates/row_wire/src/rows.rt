@@ -1,47 +1,48 @@
 // A wire of rings, one for each line.
 ghost use Rattle.std.specs.Prelude.{◌≡◌, ℕ, refl};
-ghost use Rattle.row_wire.specs.Rows.{place_of, row_lines, AllArrived};
+ghost use Rattle.row_wire.specs.Rows.{place_of, AllArrived, Sound, line_fits};
 ghost use Rattle.wires.specs.Lines.{PutAnswers, TakeAnswers, Brought, Emptied};
-ghost use Rattle.row_wire.specs.Fits.{line_fits};
 ghost use Rattle.std.proofs.lemmas.Bool.{leb-true};
 ghost use Rattle.std.proofs.Math.Nat.{le_refl};
 
-use crate::ring::{DEPTH, Ring};
+use crate::ring::Ring;
 use records::fault::NetFault;
 use records::notice::Record;
-use wires::wire::Wire;
+use std::array;
+use wires::ends::Ends;
+use wires::wire::{BLANK, Wire};
 
-// A place for each pair of ports from 0 to 7; those of a port and itself stay empty.
-const PLACES: usize = 64;
-
+// A ring for each pair of ports from 0 to 7; those of a port and itself stay empty.
 #[derive(Drop)]
 pub struct RowWire {
-    rings: [Ring; 64],
+    rings: [Ring<Record, 16>; 64],
+    ghost sound: { Sound rings },
 }
 
 impl RowWire {
+    ghost use Rattle.row_wire.specs.RowLines.{row_lines};
+
     pub fn new() -> RowWire
         ensures { Emptied (row_lines result) }
     {
         RowWire {
-            rings: [Ring::new(); PLACES],
+            rings: array::from_fn(|_| Ring::new(BLANK)),
         }
     }
 }
 
 // Where the ring of a line lies, if there is such a line.
-fn place(from: u8, to: u8) -> Option<usize>
-    ensures { result ≡ place_of from to }
+fn place(ends: Ends) -> Option<usize>
+    ensures { result ≡ place_of ends.from ends.to }
 {
-    if from < 8 && to < 8 && from != to {
-        Some(from as usize * 8 + to as usize)
-    } else {
-        None
-    }
+    ends.is_line()
+        .then(|| ends.from as usize * 8 + ends.to as usize)
 }
 
 // Beyond what every wire promises: all that a row wire holds has arrived, after every call.
 impl Wire for RowWire {
+    ghost use Rattle.row_wire.specs.RowLines.{row_lines};
+
     ghost line = { row_lines };
 
     ghost depth = { 16 };
@@ -50,51 +51,47 @@ impl Wire for RowWire {
 
     ghost arrived = { λ w p q. le_refl _ };
 
-    ghost fits = { λ w p q. line_fits w.rings p q };
+    ghost fits = { λ w p q. line_fits w.rings w.sound p q };
 
-    fn put(&mut self, from: u8, to: u8, record: Record) -> Result<(), NetFault>
-        ensures does { PutAnswers 16 (row_lines self.old) (row_lines self.new) from to «record» result }
+    fn put(&mut self, ends: Ends, record: Record) -> Result<(), NetFault>
+        ensures does { PutAnswers 16 (row_lines self.old) (row_lines self.new) ends.from ends.to «record» result }
         ensures all { AllArrived (row_lines self.new) }
     {
-        let Some(k) = place(from, to) else {
+        let ring = &mut self.rings[place(ends).ok_or(NetFault::LineFull)?];
+        if ring.is_full() {
             return Err(NetFault::LineFull);
-        };
-        self.rings[k].push(record)
-    }
-
-    fn look(&self, from: u8, to: u8) -> Option<Record> {
-        match place(from, to) {
-            Some(k) => self.rings[k].front(),
-            None => None,
         }
+        ring.push(record);
+        Ok(())
     }
 
-    fn take(&mut self, from: u8, to: u8) -> Option<Record>
-        ensures does { TakeAnswers (row_lines self.old) (row_lines self.new) from to result }
+    fn look(&self, ends: Ends) -> Option<Record> {
+        self.rings[place(ends)?].front()
+    }
+
+    fn take(&mut self, ends: Ends) -> Option<Record>
+        ensures does { TakeAnswers (row_lines self.old) (row_lines self.new) ends.from ends.to result }
         ensures all { AllArrived (row_lines self.new) }
     {
-        let k = place(from, to)?;
-        self.rings[k].pop()
+        self.rings[place(ends)?].pop()
     }
 
-    fn bring(&mut self, from: u8, to: u8)
-        ensures does { Brought (row_lines self.old) (row_lines self.new) from to }
+    fn bring(&mut self, ends: Ends)
+        ensures does { Brought (row_lines self.old) (row_lines self.new) ends.from ends.to }
         ensures all { AllArrived (row_lines self.new) }
     {}
 
-    fn free(&self, from: u8, to: u8) -> usize {
-        match place(from, to) {
-            Some(k) => DEPTH - self.rings[k].len(),
-            None => 0,
-        }
+    fn free(&self, ends: Ends) -> usize {
+        let Some(k) = place(ends) else {
+            return 0;
+        };
+        self.rings[k].free()
     }
 
     fn empty(&mut self)
         ensures does { Emptied (row_lines self.new) }
         ensures all { AllArrived (row_lines self.new) }
     {
-        for ring in self.rings.iter_mut() {
-            ring.clear();
-        }
+        *self = RowWire::new();
     }
 }

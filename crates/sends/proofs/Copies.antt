@@ -1,6 +1,6 @@
 -- What the lines get of a batch, notice by notice and port by port. Assumes nothing.
 use Rattle.std.proofs.Common.{◌≡◌, ℕ, ◌+◌, ◌<◌, Bool, true, false, cond, ◌&&◌, eqb, ltb, List, [], ◌∷◌, ◌++◌, map, length, get_or, take, drop, sym, refl, ap, ◌∙◌, subst, ⊎_elim, arith}
-use Rattle.std.proofs.lemmas.List.{append-nil, drop_more, take_more, length-append, length-map, map-append}
+use Rattle.std.proofs.lemmas.List.{append-nil, drop_more, take_more, length-append, map-append}
 use Rattle.std.proofs.lemmas.List.Elements.{filter-append}
 use Rattle.std.proofs.lemmas.Bool.{cond-true, cond-false, cases_eq, eq-eqb, and_from, and_parts, le-ltb}
 use Rattle.std.proofs.lemmas.Bool.Decides.{nat_tests}
@@ -19,9 +19,6 @@ use Rattle.sends.proofs.Rooms.{room_at, room_from}
 pub copies_on_lem : (a : ℕ) (ds : List Decided) (q : ℕ) → is_line a q ≡ true → copies_on a ds a q ≡ map Carries (sent_to q ds)
 copies_on_lem a ds q e = cond-true (eqb a a && is_line a q) (map Carries (sent_to q ds)) [] (and_from (eqb a a) (is_line a q) (eq-eqb a a refl) e)
 
-pub count_on : (a : ℕ) (ds : List Decided) (q : ℕ) → is_line a q ≡ true → length (copies_on a ds a q) ≡ length (sent_to q ds)
-count_on a ds q e = ap length (copies_on_lem a ds q e) ∙ length-map (sent_to q ds) Carries
-
 -- ---- notice by notice
 
 pub copies_append : (a : ℕ) (xs ys : List Decided) (p q : ℕ) → copies_on a (xs ++ ys) p q ≡ copies_on a xs p q ++ copies_on a ys p q
@@ -30,10 +27,6 @@ copies_append a xs ys p q =
       | true ↦ ap (map Carries) (filter-append (goes_to q) xs ys) ∙ map-append Carries (sent_to q xs) (sent_to q ys)
       | false ↦ refl
     ]
-
--- no notice, no copy
-pub grown_nothing : (old : Lines) (a : ℕ) → Grown old old (copies_on a [])
-grown_nothing old a = grown_same old old (λ p q. []) (copies_on a []) (λ p q. elim (eqb p a && is_line p q) as (λ b. cond {A = List Record} b [] [] ≡ []) [ true ↦ refl | false ↦ refl ]) (grown_none old)
 
 pub grown_more : (old mid new : Lines) (a : ℕ) (xs ys : List Decided) → Grown old mid (copies_on a xs) → Grown mid new (copies_on a ys) → Grown old new (copies_on a (xs ++ ys))
 grown_more old mid new a xs ys g h = grown_same old new (λ p q. copies_on a xs p q ++ copies_on a ys p q) (copies_on a (xs ++ ys)) (copies_append a xs ys) (grown_then old mid new (copies_on a xs) (copies_on a ys) g h)
@@ -99,9 +92,6 @@ module _ (a : ℕ) (d : Decided) where
 
   one_unset : (n p : ℕ) → gets n ≡ false → copies p n ≡ []
   one_unset n p off = grind (arith, nat_tests)
-
-  pub first_none : (old : Lines) → Grown old old (below 0 copies)
-  first_none old = grown_same old old (λ p q. []) (below 0 copies) (λ p q. cond-false (ltb q 0) (copies p q) [] (le-ltb q 0 (omega arith))) (grown_none old)
 
   pub first_all : (old new : Lines) → Grown old new (below 8 copies) → Grown old new copies
   first_all old new = grown_same old new (below 8 copies) copies (λ p q. grind (arith, nat_tests))

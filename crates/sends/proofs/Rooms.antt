@@ -1,5 +1,5 @@
 -- Room on the lines from a port, port by port, and what `send` tells of it. Assumes nothing.
-use Rattle.std.proofs.Common.{◌≡◌, ℕ, zero, suc, ◌+◌, ◌-◌, ◌<◌, ◌≤◌, Bool, true, false, cond, leb, length, Ok, Err, Result, refl, ap, ◌∙◌, ⊎_elim, add-one, arith}
+use Rattle.std.proofs.Common.{◌≡◌, ℕ, zero, suc, ◌+◌, ◌-◌, ◌<◌, ◌≤◌, Bool, true, false, cond, leb, length, Ok, Err, Result, MatchBool, sym, refl, ap, ◌∙◌, ⊎_elim, add-one, arith}
 use Rattle.std.proofs.lemmas.Bool.{both_ways, cases_Bool, cases_lt, and_from, le-leb, lt-leb, leb-true, cond-true, cond-false}
 use Rattle.std.proofs.lemmas.Bool.Decides.{nat_tests}
 use Rattle.records.specs.declared.fault.NetFault.{NetFault}
@@ -28,6 +28,11 @@ every_not n t k lt off =
     (λ (e : every n t ≡ true). absurd (both_ways (t k) off (every_at n t e k lt)))
     (λ (e : every n t ≡ false). e)
     (cases_Bool (every n t))
+
+-- what a look at each of them answers
+pub every_is : (n : ℕ) (t : ℕ → Bool) (r : Bool) → MatchBool r ((k : ℕ) → k < n → t k ≡ true) ((k : ℕ) × (k < n) × (t k ≡ false)) → r ≡ every n t
+every_is n t true h = sym (every_from n t h)
+every_is n t false (k, lt, off) = sym (every_not n t k lt off)
 
 -- ---- room
 

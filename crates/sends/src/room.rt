@@ -2,44 +2,34 @@
 ghost use Rattle.std.specs.Prelude.{◌≡◌, ◌-◌, length, nat_le};
 ghost use Rattle.model.specs.Batches.{copies_on};
 ghost use Rattle.model.specs.Refusals.{room};
-ghost use Rattle.wires.specs.Lines.{is_line, depth_of};
+ghost use Rattle.wires.specs.Lines.{depth_of};
 
 use batches::counting::count_for;
 use records::notice::Decided;
+use wires::ends::Ends;
 use wires::wire::Wire;
 
-// Whether there is a line from one port to the other.
-pub(crate) fn is_line(from: u8, to: u8) -> bool
-    ensures { result ≡ is_line from to }
+// How many copies the line is to get, of what the port at its beginning decides.
+fn copies_to(notices: &[Decided], ends: Ends) -> usize
+    ensures { result ≡ length (copies_on ends.from notices.now ends.from ends.to) }
 {
-    from < 8 && to < 8 && from != to
-}
-
-// How many copies the line from the port to another is to get.
-fn copies_to(notices: &[Decided], port: u8, to: u8) -> usize
-    ensures { result ≡ length (copies_on port notices.now port to) }
-{
-    if !is_line(port, to) {
-        return 0;
+    if ends.is_line() {
+        count_for(notices, ends.to)
+    } else {
+        0
     }
-    count_for(notices, to)
 }
 
-// Whether the line from the port to another has a free place for each copy that it is to get.
-fn fits<W: Wire>(wire: &W, port: u8, to: u8, notices: &[Decided]) -> bool
-    ensures { result ≡ nat_le (length (copies_on port notices.now port to)) (depth_of W.depth port to - length (W.line wire.now port to).held) }
+// Whether the line has a free place for each copy that it is to get.
+fn fits<W: Wire>(wire: &W, ends: Ends, notices: &[Decided]) -> bool
+    ensures { result ≡ nat_le (length (copies_on ends.from notices.now ends.from ends.to)) (depth_of W.depth ends.from ends.to - length (W.line wire.now ends.from ends.to).held) }
 {
-    copies_to(notices, port, to) <= wire.free(port, to)
+    copies_to(notices, ends) <= wire.free(ends)
 }
 
 // Whether each line from the port has a free place for each copy that it is to get.
 pub fn has_room<W: Wire>(wire: &W, port: u8, notices: &[Decided]) -> bool
     ensures { result ≡ room W.depth (W.line wire.now) port (copies_on port notices.now) }
 {
-    for to in 0..8u8 {
-        if !fits(wire, port, to, notices) {
-            return false;
-        }
-    }
-    true
+    (0..8u8).all(|to| fits(wire, Ends { from: port, to }, notices))
 }

@@ -7,11 +7,12 @@ ghost use Rattle.wires.specs.Growths.{Grown, to_each};
 ghost use Rattle.wires.specs.Lines.{is_line};
 ghost use Rattle.std.specs.Prelude.{◌≡◌, true, ◌&&◌, [], ◌∷◌};
 
-use crate::room::{has_room, is_line};
+use crate::room::has_room;
 use records::fault::NetFault;
 use records::mask::Mask;
 use records::notice::{Decided, Record};
 use records::stamp::Stamp;
+use wires::ends::Ends;
 use wires::wire::Wire;
 
 // Puts the copies of a batch on the lines from the port that decides it, notice by notice, or, where one of these lines
@@ -30,21 +31,14 @@ pub fn send_batch<W: Wire>(wire: &mut W, port: u8, notices: &[Decided]) -> Resul
 pub fn send_clearance<W: Wire>(wire: &mut W, to: Mask, stamp: Stamp) -> Result<(), NetFault>
     ensures { AllOrNone W.line W.depth wire.old wire.new stamp.port (to_each stamp.port to.bits (Empty stamp)) result }
 {
-    send_to_each(wire, stamp.port, to, Record::Empty(stamp))
+    wires::send(wire, stamp.port, to, Record::Empty(stamp))
 }
 
-// Puts the record on the line from the port to each port of the mask, or, where one of these lines is full, on none.
-fn send_to_each<W: Wire>(wire: &mut W, from: u8, to: Mask, record: Record) -> Result<(), NetFault>
-    ensures { AllOrNone W.line W.depth wire.old wire.new from (to_each from to.bits «record») result }
+// Whether the notice is to be copied to the other end: it is addressed there, and there is a line.
+fn is_copied(notice: Decided, ends: Ends) -> bool
+    ensures { result ≡ is_line ends.from ends.to && goes_to ends.to notice }
 {
-    wires::send(wire, from, to, record)
-}
-
-// Whether the port's notice is to be copied to another: it is addressed there, and there is a line.
-fn is_copied(notice: Decided, port: u8, to: u8) -> bool
-    ensures { result ≡ is_line port to && goes_to to notice }
-{
-    is_line(port, to) && notice.notice.to.names(to)
+    ends.is_line() && notice.notice.to.names(ends.to)
 }
 
 // Puts a copy of the notice on the line to each of its destinations but the port.
@@ -53,9 +47,9 @@ fn put_copies<W: Wire>(wire: &mut W, port: u8, notice: Decided)
     ensures { Grown (W.line wire.old) (W.line wire.new) (copies_on port (notice ∷ [])) }
 {
     for to in 0..8u8 {
-        if is_copied(notice, port, to) {
-            // there is room: the put is not refused
-            let _ = wire.put(port, to, Record::Notice(notice));
+        let ends = Ends { from: port, to };
+        if is_copied(notice, ends) {
+            wire.put(ends, Record::Notice(notice)).unwrap();
         }
     }
 }

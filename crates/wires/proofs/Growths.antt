@@ -1,11 +1,10 @@
 -- How growths add up. Assumes nothing.
-use Rattle.std.proofs.Common.{◌≡◌, ℕ, ◌+◌, ◌<◌, ◌≤◌, true, false, cond, ◌&&◌, eqb, ltb, List, [], ◌∷◌, ◌++◌, length, sym, refl, ap, ◌∙◌, subst, ⊎_elim, arith}
+use Rattle.std.proofs.Common.{◌≡◌, ℕ, ◌+◌, ◌≤◌, true, false, cond, ◌&&◌, eqb, ltb, List, [], ◌∷◌, ◌++◌, length, sym, refl, ap, ◌∙◌, subst, ⊎_elim, arith}
 use Rattle.std.proofs.lemmas.List.{append-nil, append_assoc, length-append}
-use Rattle.std.proofs.lemmas.Bool.{cond-true, cond-false, cond_both, cases_eq, cases_lt, eqb-true, and_parts, and_right, lt-ltb, le-ltb}
+use Rattle.std.proofs.lemmas.Bool.{cond-false, cond_both, cases_eq, eqb-true, and_parts, le-ltb}
 use Rattle.std.proofs.lemmas.Bool.Decides.{nat_tests}
 use Rattle.records.specs.declared.notice.Record.{Record}
 use Rattle.records.specs.Masks.{named}
-use Rattle.records.proofs.MaskLaws.{none_above}
 use Rattle.wires.specs.Lines.{Lines, Put}
 use Rattle.wires.specs.Growths.{Extra, Grown, single, to_each}
 use Rattle.wires.proofs.LineLaws.{by_line}
@@ -80,19 +79,6 @@ below_more n e p q =
     (cases_eq q n)
 
 module _ (a mask : ℕ) (x : Record) where
-  pub below_none : (old : Lines) → Grown old old (below 0 (to_each a mask x))
-  below_none old = grown_same old old (λ p q. []) (below 0 (to_each a mask x)) (λ p q. cond-false (ltb q 0) (to_each a mask x p q) [] (le-ltb q 0 (omega arith))) (grown_none old)
-
-  pub below_all : (old new : Lines) → mask < 256 → Grown old new (below 8 (to_each a mask x)) → Grown old new (to_each a mask x)
-  below_all old new byte = grown_same old new (below 8 (to_each a mask x)) (to_each a mask x) whole
-    where
-      whole : (p q : ℕ) → to_each a mask x p q ≡ below 8 (to_each a mask x) p q
-      whole p q =
-          ⊎_elim
-          (λ (h : q < 8). sym (cond-true (ltb q 8) (to_each a mask x p q) [] (lt-ltb q 8 h)))
-          (λ (h : 8 ≤ q). cond-false (eqb p a && named mask q) (x ∷ []) [] (and_right (eqb p a) (named mask q) (none_above mask q byte h)) ∙ sym (cond-false (ltb q 8) (to_each a mask x p q) [] (le-ltb q 8 h)))
-          (cases_lt q 8)
-
   next_off : (n : ℕ) → named mask n ≡ false → (p q : ℕ) → cond (eqb q n) (to_each a mask x p n) [] ≡ []
   next_off n off p q = grind (arith, nat_tests)
 

@@ -1,2 +1,4 @@
 pub mod LineLaws
 pub mod Growths
+pub mod Ports
+pub mod Spaces

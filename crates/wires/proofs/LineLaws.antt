@@ -1,9 +1,9 @@
 -- What users of a wire need to know of its lines. Assumes nothing.
-use Rattle.std.proofs.Common.{◌≡◌, ℕ, ◌<◌, true, not, ◌&&◌, eqb, ltb, length, Ok, Err, Result, sym, subst, ⊎_elim, arith}
+use Rattle.std.proofs.Common.{◌≡◌, ℕ, ◌<◌, true, not, ◌&&◌, eqb, ltb, length, Ok, Err, Result, IsOk, refl, sym, subst, ⊎_elim, arith}
 use Rattle.std.proofs.lemmas.Bool.{cases_eq, and_parts, ltb-true, eqb-false, not-true}
 use Rattle.records.specs.declared.fault.NetFault.{NetFault}
 use Rattle.records.specs.declared.notice.Record.{Record}
-use Rattle.wires.specs.Lines.{Lines, is_line, depth_of, Same, SameBut, Put, PutAnswers}
+use Rattle.wires.specs.Lines.{Lines, is_line, depth_of, Put, PutAnswers}
 
 -- the two ports of a line
 pub line_ports : (p q : ℕ) → is_line p q ≡ true → (p < 8) × (q < 8) × (p ≡ q → ⊥)
@@ -17,6 +17,10 @@ pub put_since_space : {X : Type 0} (d : ℕ) (old new : Lines) (a b : ℕ) (x : 
 put_since_space d old new a b x (Ok y) h l = h
 put_since_space d old new a b x (Err y) h l = absurd (omega (arith, h.1.full))
 
+pub ok_since_space : {X : Type 0} (d : ℕ) (old new : Lines) (a b : ℕ) (x : Record) (r : Result X NetFault) → PutAnswers d old new a b x r → length (old a b).held < depth_of d a b → IsOk r
+ok_since_space d old new a b x (Ok y) h l = refl
+ok_since_space d old new a b x (Err y) h l = absurd (omega (arith, h.1.full))
+
 -- what holds of the line from a to b, and of every other, holds of all
 pub by_line : (a b : ℕ) (P : ℕ → ℕ → Type 0) → P a b → ((p q : ℕ) → ((p ≡ a) × (q ≡ b) → ⊥) → P p q) → (p q : ℕ) → P p q
 by_line a b P here other p q =
@@ -28,7 +32,3 @@ by_line a b P here other p q =
     (cases_eq q b))
     (λ (np : p ≡ a → ⊥). other p q (λ h. np h.0))
     (cases_eq p a)
-
--- the one line that may differ does not
-pub same_from_but : (old new : Lines) (a b : ℕ) → SameBut old new a b → new a b ≡ old a b → Same old new
-same_from_but old new a b but e = by_line a b (λ p q. new p q ≡ old p q) e but

@@ -1,7 +1,8 @@
 // What is sent over any kind of wire.
 ghost use Rattle.wires.specs.Growths.{Grown, to_each, Space, NoSpace, SendAnswers};
-ghost use Rattle.std.specs.Prelude.{true, false};
+ghost use Rattle.std.specs.Prelude.{MatchBool};
 
+use crate::ends::Ends;
 use crate::wire::Wire;
 use records::fault::NetFault;
 use records::mask::Mask;
@@ -20,14 +21,9 @@ pub fn send<W: Wire>(wire: &mut W, from: u8, to: Mask, record: Record) -> Result
 
 // Whether the line to each port of the mask has a free place.
 fn has_space<W: Wire>(wire: &W, from: u8, to: Mask) -> bool
-    ensures { elim result [ true ↦ Space W.depth (W.line wire.now) from to.bits | false ↦ NoSpace W.depth (W.line wire.now) from to.bits ] }
+    ensures { MatchBool result (Space W.depth (W.line wire.now) from to.bits) (NoSpace W.depth (W.line wire.now) from to.bits) }
 {
-    for port in 0..8u8 {
-        if to.names(port) && wire.free(from, port) == 0 {
-            return false;
-        }
-    }
-    true
+    (0..8u8).all(|port| !to.names(port) || wire.free(Ends { from, to: port }) > 0)
 }
 
 // Puts the record on the line to each port of the mask.
@@ -37,7 +33,7 @@ fn put_on_each<W: Wire>(wire: &mut W, from: u8, to: Mask, record: Record)
 {
     for end in 0..8u8 {
         if to.names(end) {
-            let _ = wire.put(from, end, record);
+            wire.put(Ends { from, to: end }, record).unwrap();
         }
     }
 }

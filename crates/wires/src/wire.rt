@@ -2,8 +2,16 @@
 ghost use Rattle.std.specs.Prelude.{◌≡◌, ℕ, ◌-◌, ◌≤◌, length};
 ghost use Rattle.wires.specs.Lines.{Line, depth_of, PutAnswers, LookAnswers, TakeAnswers, Brought, Emptied};
 
+use crate::ends::Ends;
 use records::fault::NetFault;
 use records::notice::Record;
+use records::stamp::{Pair, Stamp};
+
+// What stands in a place of a wire that no record was put in yet.
+pub const BLANK: Record = Record::Empty(Stamp {
+    pair: Pair { clock: 0, step: 0 },
+    port: 0,
+});
 
 // A wire has a line for each ordered pair of different ports from 0 to 7. Any other pair of numbers has a line of
 // depth 0, on which nothing can be put.
@@ -15,24 +23,24 @@ pub trait Wire {
     ghost depth: { ℕ };
 
     // Appends the record, or refuses where the line is full. More of the line may have arrived then.
-    fn put(&mut self, from: u8, to: u8, record: Record) -> Result<(), NetFault>
-        ensures { PutAnswers depth (line self.old) (line self.new) from to «record» result };
+    fn put(&mut self, ends: Ends, record: Record) -> Result<(), NetFault>
+        ensures { PutAnswers depth (line self.old) (line self.new) ends.from ends.to «record» result };
 
     // The oldest record, if it has arrived.
-    fn look(&self, from: u8, to: u8) -> Option<Record>
-        ensures { LookAnswers (line self.now from to) result };
+    fn look(&self, ends: Ends) -> Option<Record>
+        ensures { LookAnswers (line self.now ends.from ends.to) result };
 
     // Answers as `look` does, and removes the record that it answers.
-    fn take(&mut self, from: u8, to: u8) -> Option<Record>
-        ensures { TakeAnswers (line self.old) (line self.new) from to result };
+    fn take(&mut self, ends: Ends) -> Option<Record>
+        ensures { TakeAnswers (line self.old) (line self.new) ends.from ends.to result };
 
     // Lets more of the line arrive, or not.
-    fn bring(&mut self, from: u8, to: u8)
-        ensures { Brought (line self.old) (line self.new) from to };
+    fn bring(&mut self, ends: Ends)
+        ensures { Brought (line self.old) (line self.new) ends.from ends.to };
 
     // How many records more the line can hold.
-    fn free(&self, from: u8, to: u8) -> usize
-        ensures { result ≡ depth_of depth from to - length (line self.now from to).held };
+    fn free(&self, ends: Ends) -> usize
+        ensures { result ≡ depth_of depth ends.from ends.to - length (line self.now ends.from ends.to).held };
 
     // Makes every line empty.
     fn empty(&mut self)

@@ -2,23 +2,27 @@
 use crate::trials::numbered;
 use row_wire::RowWire;
 use std::process::Abort;
+use wires::ends::Ends;
 use wires::wire::Wire;
 
 #[test]
 fn arrives_at_once(rt: HostRuntime) {
     let mut wire = RowWire::new();
-    assert_eq!(rt; wire.put(3, 4, numbered(3, 4, 1)), Ok(()));
-    assert_eq!(rt; wire.look(3, 4), Some(numbered(3, 4, 1)));
-    assert_eq!(rt; wire.look(4, 3), None);
+    let there = Ends { from: 3, to: 4 };
+    let back = Ends { from: 4, to: 3 };
+    assert_eq!(rt; wire.put(there, numbered(there, 1)), Ok(()));
+    assert_eq!(rt; wire.look(there), Some(numbered(there, 1)));
+    assert_eq!(rt; wire.look(back), None);
 }
 
 // 200 records through a ring that never holds more than `held`: for 16 it is full at every turn.
 fn goes_round(rt: &impl Abort, held: u8) {
     let mut wire = RowWire::new();
+    let ends = Ends { from: 0, to: 7 };
     for k in 0..200u8 {
-        assert_eq!(rt; wire.put(0, 7, numbered(0, 7, k)), Ok(()));
+        assert_eq!(rt; wire.put(ends, numbered(ends, k)), Ok(()));
         if k + 1 >= held {
-            assert_eq!(rt; wire.take(0, 7), Some(numbered(0, 7, k + 1 - held)));
+            assert_eq!(rt; wire.take(ends), Some(numbered(ends, k + 1 - held)));
         }
     }
 }

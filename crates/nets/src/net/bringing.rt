@@ -8,6 +8,7 @@ ghost use Rattle.std.specs.Prelude.{◌≡◌, MatchResult, OnErr};
 use crate::net::Net;
 use boards::board::Board;
 use records::fault::NetFault;
+use wires::ends::Ends;
 use wires::wire::Wire;
 
 impl<W: Wire, B: Board> Net<W, B> {
@@ -22,7 +23,7 @@ impl<W: Wire, B: Board> Net<W, B> {
         if !self.reach.sends(from, to) {
             return Err(NetFault::OutOfReach);
         }
-        self.wire.bring(from, to);
+        self.wire.bring(Ends { from, to });
         Ok(())
     }
 }

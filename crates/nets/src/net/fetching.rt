@@ -8,6 +8,7 @@ ghost use Rattle.std.specs.Prelude.{◌≡◌, MatchResult, OnErr};
 use crate::net::Net;
 use boards::board::Board;
 use records::fault::NetFault;
+use wires::ends::Ends;
 use wires::wire::Wire;
 
 impl<W: Wire, B: Board> Net<W, B> {
@@ -22,15 +23,19 @@ impl<W: Wire, B: Board> Net<W, B> {
         if !self.reach.sends(source, port) {
             return Err(NetFault::OutOfReach);
         }
-        let Some(record) = self.wire.look(source, port) else {
+        let ends = Ends {
+            from: source,
+            to: port,
+        };
+        let Some(record) = self.wire.look(ends) else {
             return Err(NetFault::NothingArrived);
         };
         let at = port as usize;
         if !self.ports[at].takes(source, record) {
             return Err(NetFault::SourceWaitingFull);
         }
-        let _ = self.ports[at].admit(source, record);
-        let _ = self.wire.take(source, port);
+        self.ports[at].admit(source, record).unwrap();
+        self.wire.take(ends).unwrap();
         Ok(())
     }
 }

@@ -2,13 +2,20 @@ use Rattle.std.proofs.Common.{◌≡◌, ◌+◌, true, sym, subst, arith}
 use Rattle.records.specs.declared.notice.Record.TheVariants.{Notice as Carries}
 use Rattle.wires.specs.Growths.{Grown}
 use Rattle.wires.proofs.Growths.{below}
-use Rattle.wires.proofs.LineLaws.{put_since_space}
-use Rattle.sends.proofs.Copies.{copies, gets, first_none, first_all, first_skip, first_put, first_space}
+use Rattle.wires.proofs.LineLaws.{ok_since_space, put_since_space}
+use Rattle.sends.proofs.Copies.{copies, gets, first_all, first_skip, first_put, first_space}
 use Rattle.sends.proofs.sending.put_copies.Goals as goal
 use Rattle.sends.proofs.sending.put_copies.Goals.{then-is_copied, else-is_copied}
 
-pub loop-to-init : goal.loop-to-init
-loop-to-init g c = first_none c.args.port c.args.notice (g.W.Wire.line c.args.wire.now)
+pub unwrap-requires : goal.unwrap-requires
+unwrap-requires g c =
+    let m = g.W.Wire in
+    let mid = m.line c.loop-to.wire in
+    let a = c.args.port in
+    let d = c.args.notice in
+    let n = c.loop-to.to in
+    let on : gets a d n ≡ true = sym {b = gets a d n} c.if-is_copied.ensures in
+    ok_since_space m.depth mid (m.line c.put.new.self) a n (Carries d) c.put.result c.put.ensures (first_space a d (m.line c.args.wire.now) mid n c.loop-to.invariant m.depth c.requires on (omega (arith, c.loop-to-test.true)))
 
 pub loop-to-preserved : goal.loop-to-preserved
 loop-to-preserved g c =

@@ -7,7 +7,7 @@ use Rattle.ports.specs.Ports.{port_view, misfits}
 use Rattle.nets.specs.Views.{ports_of, view}
 use Rattle.nets.proofs.Keeping.{kept_after, stops, any_of, first_inside, second_inside}
 use Rattle.nets.proofs.Ports.{port_is, own_is, only_port, numbered_still, in_ports}
-use Rattle.nets.proofs.Fetching.{looked, not_looked, taken_so, genuine, oldest_in, misfit_is, admitted, no_reach, none_arrived, full_up, has_room}
+use Rattle.nets.proofs.Fetching.{looked, not_looked, taken_so, genuine, oldest_in, misfit_is, admit_ok, admitted, no_reach, none_arrived, full_up, has_room}
 use Rattle.nets.proofs.net.Net.fetch.Goals as goal
 
 pub returns-then-lacks : goal.returns-then-lacks
@@ -48,6 +48,19 @@ returns-then-not-takes g c =
       kept = kept_after (λ h l. record { fault = full_up v p f there s x (looked (line f p) x look) true (sym (misfit_is p f x (ports_of n.ports p).waiting (genuine h v l f p x (oldest_in (line f p) x look))) ∙ here) refl; same = refl });
       same = refl;
     }
+
+pub unwrap-requires : goal.unwrap-requires
+unwrap-requires g c =
+    let n = c.args.self.now in
+    let p = c.args.port in
+    let f = c.args.source in
+    let there = any_of c.lacks.ensures c.lacks-2.ensures c.if-lacks.false in
+    let lt = first_inside n.reach p f there in
+    let d = c.index-self-at.result in
+    let e = c.index-self-at-2.result in
+    let same = get_or_default n.ports p d e (in_ports n.ports p n.own lt) in
+    let ok : misfits (get_or n.ports p d).own f c.in-Some.record (port_view (get_or n.ports p d)).waiting ≡ false = not-true _ (sym c.takes.ensures ∙ c.if-not-takes.false) in
+    admit_ok (get_or n.ports p e) c.admit.new.self f c.in-Some.record c.admit.result (second_inside n.reach p f there) (subst (λ x. misfits x.own f c.in-Some.record (port_view x).waiting ≡ false) same ok) c.admit.ensures
 
 pub invariant_of-self : goal.invariant_of-self
 invariant_of-self g c =
