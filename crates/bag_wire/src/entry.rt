@@ -4,20 +4,12 @@ ghost use Rattle.std.specs.Prelude.{◌≡◌};
 
 use records::notice::Record;
 use wires::ends::Ends;
-use wires::wire::BLANK;
 
-#[derive(Clone, Copy)]
+#[derive(Clone, Copy, Default)]
 pub struct Entry {
     pub ends: Ends,
     pub item: Record,
     pub arrived: bool,
-}
-
-// What stands in a place of the journal that is not in use.
-impl Default for Entry {
-    fn default() -> Entry {
-        Entry::fresh(Ends { from: 0, to: 0 }, BLANK)
-    }
 }
 
 impl Entry {

@@ -19,3 +19,7 @@ module _ (n : ℕ) (Yes No : ℕ → Type 0) where
   pub any_below : (r : Bool) → MatchBool r ((k : ℕ) × (k < length (range_with_len 0 n)) × HoldsAt Yes (range_with_len 0 n) k) (AllWithin No (range_with_len 0 n) 0 (length (range_with_len 0 n))) → MatchBool r ((x : ℕ) × (x < n) × Yes x) ((x : ℕ) → x < n → No x)
   any_below true h = some_below h
   any_below false h = each_below h
+
+pub all_below : (n : ℕ) (Yes No : ℕ → Type 0) (r : Bool) → MatchBool r (AllWithin Yes (range_with_len 0 n) 0 (length (range_with_len 0 n))) ((k : ℕ) × (k < length (range_with_len 0 n)) × HoldsAt No (range_with_len 0 n) k) → MatchBool r ((x : ℕ) → x < n → Yes x) ((x : ℕ) × (x < n) × No x)
+all_below n Yes No true h = λ x lt. at_place n x Yes lt (λ d. h x d (omega arith) (omega (arith, length-range_with_len 0 n)))
+all_below n Yes No false (k, lt, h) = let below : k < n = omega (arith, length-range_with_len 0 n) in (k, below, at_place n k No below h)

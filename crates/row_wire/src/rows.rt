@@ -10,7 +10,7 @@ use records::fault::NetFault;
 use records::notice::Record;
 use std::array;
 use wires::ends::Ends;
-use wires::wire::{BLANK, Wire};
+use wires::wire::Wire;
 
 // A ring for each pair of ports from 0 to 7; those of a port and itself stay empty.
 #[derive(Drop)]
@@ -26,7 +26,7 @@ impl RowWire {
         ensures { Emptied (row_lines result) }
     {
         RowWire {
-            rings: array::from_fn(|_| Ring::new(BLANK)),
+            rings: array::from_fn(|_| Ring::new(Record::default())),
         }
     }
 }

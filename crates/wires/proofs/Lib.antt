@@ -1,4 +1,3 @@
 pub mod LineLaws
 pub mod Growths
-pub mod Ports
 pub mod Spaces

@@ -3,7 +3,7 @@ ghost use Rattle.std.specs.Prelude.{◌≡◌};
 ghost use Rattle.wires.specs.Lines.{is_line};
 
 // The two ends of a line: the port that sends on it, and the port that takes from it.
-#[derive(Clone, Copy, PartialEq, Eq, Debug)]
+#[derive(Clone, Copy, PartialEq, Eq, Default, Debug)]
 pub struct Ends {
     pub from: u8,
     pub to: u8,

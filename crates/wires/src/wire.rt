@@ -5,13 +5,6 @@ ghost use Rattle.wires.specs.Lines.{Line, depth_of, PutAnswers, LookAnswers, Tak
 use crate::ends::Ends;
 use records::fault::NetFault;
 use records::notice::Record;
-use records::stamp::{Pair, Stamp};
-
-// What stands in a place of a wire that no record was put in yet.
-pub const BLANK: Record = Record::Empty(Stamp {
-    pair: Pair { clock: 0, step: 0 },
-    port: 0,
-});
 
 // A wire has a line for each ordered pair of different ports from 0 to 7. Any other pair of numbers has a line of
 // depth 0, on which nothing can be put.

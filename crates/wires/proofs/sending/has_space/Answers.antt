@@ -1,7 +1,7 @@
 use Rattle.std.proofs.Common.{ℕ, arith, rules}
 use borrow.Author.Tests.{tests}
 use Rattle.std.proofs.lemmas.Iterator.{cases_from_all, YieldsList-from_range}
-use Rattle.wires.proofs.Ports.{all_below}
+use Rattle.records.proofs.Ports.{all_below}
 use Rattle.wires.proofs.Spaces.{Clear, Blocked, space_cases}
 use Rattle.wires.proofs.sending.has_space.Goals as goal
 
