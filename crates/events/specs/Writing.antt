@@ -1,5 +1,7 @@
 -- How a table and events are written as a stream. Assumes nothing.
 use Rattle.std.specs.Prelude.{◌≡◌, ℕ, ◌/◌, ◌%◌, ◌^◌, ◌<◌, List, [], ◌∷◌, ◌++◌, length, slice_index}
+use Rattle.records.specs.declared.reach.Reach.{Reach}
+use Rattle.records.specs.Reaching.{mask_bytes}
 use Rattle.events.specs.declared.event.Event.{Event}
 use Rattle.events.specs.declared.event.Event.TheVariants.{HandIn, Decide, Clear, Bring, Fetch, Release}
 use Rattle.events.specs.Fields.{table_tag}
@@ -44,6 +46,10 @@ event_bytes e = field_of (tag_of e) (value_of e)
 abbrev pub events_bytes : List Event → List ℕ
 events_bytes [] = []
 events_bytes (e ∷ es) = event_bytes e ++ events_bytes es
+
+-- the masks of a table, as bytes
+abbrev pub masks_of : Reach → List ℕ
+masks_of t = mask_bytes t.ports t.masks
 
 -- the field of the table with these masks, as bytes
 abbrev pub table_bytes : List ℕ → List ℕ
