@@ -4,7 +4,6 @@ ghost use Rattle.events.specs.Fields.{longest};
 ghost use Rattle.events.specs.Streams.{Wrote, NotWritten};
 ghost use Rattle.events.specs.Tags.{number_of};
 ghost use Rattle.events.specs.Writing.{field_of, event_bytes, masks_of, table_bytes, stream_of, Fit};
-ghost use Rattle.events.specs.declared.event.Event.TheVariants.{Decide};
 
 use crate::event::Event;
 use crate::reader::LONGEST;
@@ -30,20 +29,6 @@ fn field(tag: Tag, value: &[u8]) -> ArrayVec<u8, FIELD>
     field
 }
 
-fn encode_decide(port: u8, number: u16, cuts: &[u16]) -> ArrayVec<u8, FIELD>
-    requires { length cuts.now ≡ 4 }
-    ensures bytes { result.items ≡ event_bytes (Decide port number cuts.now) }
-    ensures fit { Fit (Decide port number cuts.now) }
-{
-    let [n0, n1] = number.to_be_bytes();
-    let [a0, a1] = cuts[0].to_be_bytes();
-    let [b0, b1] = cuts[1].to_be_bytes();
-    let [c0, c1] = cuts[2].to_be_bytes();
-    let [d0, d1] = cuts[3].to_be_bytes();
-    let value = [port, n0, n1, a0, a1, b0, b1, c0, c1, d0, d1];
-    field(Tag::Decide, &value)
-}
-
 fn encode(event: Event) -> ArrayVec<u8, FIELD>
     ensures bytes { result.items ≡ event_bytes event }
     ensures fit { Fit event }
@@ -66,7 +51,15 @@ fn encode(event: Event) -> ArrayVec<u8, FIELD>
             ];
             field(Tag::HandIn, &value)
         }
-        Event::Decide { port, number, cuts } => encode_decide(port, number, &cuts),
+        Event::Decide { port, number, cuts } => {
+            let [n0, n1] = number.to_be_bytes();
+            let [a0, a1] = cuts[0].to_be_bytes();
+            let [b0, b1] = cuts[1].to_be_bytes();
+            let [c0, c1] = cuts[2].to_be_bytes();
+            let [d0, d1] = cuts[3].to_be_bytes();
+            let value = [port, n0, n1, a0, a1, b0, b1, c0, c1, d0, d1];
+            field(Tag::Decide, &value)
+        }
         Event::Clear { port, reading } => {
             let [r0, r1, r2, r3] = reading.to_be_bytes();
             field(Tag::Clear, &[port, r0, r1, r2, r3])
