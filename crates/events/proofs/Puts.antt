@@ -7,7 +7,7 @@ use Rattle.events.specs.Writing.{event_bytes, events_bytes, table_bytes, stream_
 
 -- what a read past the end would give
 abbrev pub no_event : Event
-no_event = HandIn 0 0 0 0 0 0 0 0
+no_event = HandIn (record { port = 0; dispatcher = 0; reading = 0; mask = 0; home = 0; berth = 0; action = 0; vessel = 0 })
 
 pub events_append : (xs ys : List Event) → events_bytes (xs ++ ys) ≡ events_bytes xs ++ events_bytes ys
 events_append [] ys = refl

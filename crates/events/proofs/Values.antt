@@ -76,10 +76,10 @@ decide_known port number a b c d f =
     record { size = refl; short = omega arith; event = cc; tag = omega arith }
 
 pub known : (e : Event) → Fit e → Known e
-known (HandIn port dispatcher reading mask home berth action vessel) f =
-    let r = from32 reading f.2 in
-    let v = from16 vessel f.7 in
-    record { size = refl; short = omega arith; event = cc; tag = omega arith }
+known (HandIn x) f =
+    let r = from32 x.reading f.2 in
+    let v = from16 x.vessel f.7 in
+    record { size = refl; short = omega arith; event = rw (r, v) refl; tag = omega arith }
 known (Decide port number cuts) f = let e = four cuts f.2 in subst (λ xs. Known (Decide port number xs)) (sym e) (decide_known port number _ _ _ _ (subst (λ xs. Fit (Decide port number xs)) e f))
 known (Clear port reading) f = let r = from32 reading f.1 in record { size = refl; short = omega arith; event = cc; tag = omega arith }
 known (Bring from to) f = record { size = refl; short = omega arith; event = refl; tag = omega arith }

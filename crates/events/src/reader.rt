@@ -8,6 +8,7 @@ ghost use Rattle.events.specs.Tags.{number_of};
 use crate::event::{Event, Field};
 use crate::tag::Tag;
 use records::fault::ReaderFault;
+use records::notice::HandIn;
 
 // The longest stream that is read, in bytes.
 pub const LONGEST: usize = 32768;
@@ -33,7 +34,7 @@ fn field(tag: Tag, v: &[u8]) -> Field<'_>
 {
     Field::Event(match tag {
         Tag::Table => return Field::Table(v),
-        Tag::HandIn => Event::HandIn {
+        Tag::HandIn => Event::HandIn(HandIn {
             port: v[0],
             dispatcher: v[1],
             reading: u32_at(v, 2),
@@ -42,7 +43,7 @@ fn field(tag: Tag, v: &[u8]) -> Field<'_>
             berth: v[8],
             action: v[9],
             vessel: u16_at(v, 10),
-        },
+        }),
         Tag::Decide => Event::Decide {
             port: v[0],
             number: u16_at(v, 1),

@@ -3,13 +3,15 @@ ghost use Rattle.std.specs.Prelude.{◌≡◌, ℕ, ◌+◌, ◌<◌, ◌≤◌,
 ghost use Rattle.events.specs.Fields.{longest};
 ghost use Rattle.events.specs.Streams.{Wrote, NotWritten};
 ghost use Rattle.events.specs.Tags.{number_of};
-ghost use Rattle.events.specs.Writing.{field_of, event_bytes, masks_of, table_bytes, stream_of, Fit};
+ghost use Rattle.records.specs.Tables.{masks_of};
+ghost use Rattle.events.specs.Writing.{field_of, event_bytes, table_bytes, stream_of, Fit};
 
 use crate::event::Event;
 use crate::reader::LONGEST;
 use crate::tag::Tag;
 use arrayvec::ArrayVec;
 use records::fault::OutputFault;
+use records::notice::HandIn;
 use records::reach::Reach;
 
 // The longest field that is written, in bytes.
@@ -29,28 +31,34 @@ fn field(tag: Tag, value: &[u8]) -> ArrayVec<u8, FIELD>
     field
 }
 
+fn encode_hand_in(hand_in: HandIn) -> ArrayVec<u8, FIELD>
+    ensures bytes { result.items ≡ event_bytes (Event.HandIn hand_in) }
+    ensures fit { Fit (Event.HandIn hand_in) }
+{
+    let HandIn {
+        port,
+        dispatcher,
+        reading,
+        mask,
+        home,
+        berth,
+        action,
+        vessel,
+    } = hand_in;
+    let [r0, r1, r2, r3] = reading.to_be_bytes();
+    let [v0, v1] = vessel.to_be_bytes();
+    let value = [
+        port, dispatcher, r0, r1, r2, r3, mask, home, berth, action, v0, v1,
+    ];
+    field(Tag::HandIn, &value)
+}
+
 fn encode(event: Event) -> ArrayVec<u8, FIELD>
     ensures bytes { result.items ≡ event_bytes event }
     ensures fit { Fit event }
 {
     match event {
-        Event::HandIn {
-            port,
-            dispatcher,
-            reading,
-            mask,
-            home,
-            berth,
-            action,
-            vessel,
-        } => {
-            let [r0, r1, r2, r3] = reading.to_be_bytes();
-            let [v0, v1] = vessel.to_be_bytes();
-            let value = [
-                port, dispatcher, r0, r1, r2, r3, mask, home, berth, action, v0, v1,
-            ];
-            field(Tag::HandIn, &value)
-        }
+        Event::HandIn(hand_in) => encode_hand_in(hand_in),
         Event::Decide { port, number, cuts } => {
             let [n0, n1] = number.to_be_bytes();
             let [a0, a1] = cuts[0].to_be_bytes();

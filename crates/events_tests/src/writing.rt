@@ -1,6 +1,7 @@
 // What is written, byte for byte; both sides of the memory's limit.
 use events::event::Event;
 use events::writer::write;
+use records::notice::HandIn;
 use records::reach::Reach;
 
 // How many bytes are written, or the refusal's number.
@@ -25,7 +26,7 @@ fn no_events(rt: HostRuntime) {
 
 #[test]
 fn every_tag(rt: HostRuntime) {
-    let hand_in = Event::HandIn {
+    let hand_in = Event::HandIn(HandIn {
         port: 1,
         dispatcher: 2,
         reading: 0x03040506,
@@ -34,7 +35,7 @@ fn every_tag(rt: HostRuntime) {
         berth: 9,
         action: 10,
         vessel: 0x0b0c,
-    };
+    });
     let mut out = [0; 20];
     assert_eq!(rt; written(&[hand_in], &mut out), Ok(20));
     assert_eq!(rt;

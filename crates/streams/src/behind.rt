@@ -2,7 +2,7 @@
 ghost use Rattle.std.specs.Prelude.{◌≡◌, ◌<◌, ◌≤◌, length, IfOk, MatchResult, OnErr, OnSome};
 ghost use Rattle.events.specs.Fields.{read_at};
 ghost use Rattle.events.specs.Streams.{FirstTable};
-ghost use Rattle.events.specs.Writing.{masks_of};
+ghost use Rattle.records.specs.Tables.{masks_of};
 ghost use Rattle.streams.specs.Streams.{FirstRefused, EventAnswers};
 
 use crate::part::{Part, Refusal};

@@ -1,6 +1,6 @@
 // Reads a whole stream: its table and its events, or the first refusal with its place and the part that it came from.
 ghost use Rattle.events.specs.Streams.{SaysRest, ReadWhole};
-ghost use Rattle.events.specs.Writing.{masks_of};
+ghost use Rattle.records.specs.Tables.{masks_of};
 ghost use Rattle.streams.specs.Whole.{RestRefused, FirstFault};
 ghost use Rattle.std.specs.Prelude.{MatchResult};
 

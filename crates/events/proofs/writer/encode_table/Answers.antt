@@ -1,7 +1,8 @@
 use Rattle.std.proofs.Common.{◌≡◌, get_or, length, sym, ap, ◌∙◌, arith}
 use Rattle.std.proofs.lemmas.List.{take_more, take_all, length-take-le}
 use Rattle.records.proofs.ReachLaws.{length_bytes, byte_at}
-use Rattle.events.specs.Writing.{masks_of, table_bytes}
+use Rattle.records.specs.Tables.{masks_of}
+use Rattle.events.specs.Writing.{table_bytes}
 use Rattle.events.proofs.writer.encode_table.Goals as goal
 
 pub push-requires : goal.push-requires

@@ -1,5 +1,5 @@
 use Rattle.std.proofs.Common.{◌≡◌, take}
-use Rattle.events.specs.Writing.{masks_of}
+use Rattle.records.specs.Tables.{masks_of}
 use Rattle.events.proofs.writer.encode_table.Given as goal
 
 abbrev pub invariant-loop-port : goal.invariant-loop-port

@@ -1,5 +1,5 @@
 use Rattle.std.proofs.Common.{◌+◌, length, ap, ◌∙◌, arith}
-use Rattle.events.specs.Writing.{masks_of}
+use Rattle.records.specs.Tables.{masks_of}
 use Rattle.events.proofs.Puts.{stream_length_more, stream_part, stream_all}
 use Rattle.events.proofs.writer.stream_len.Goals as goal
 

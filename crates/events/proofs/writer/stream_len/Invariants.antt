@@ -1,6 +1,7 @@
 use Rattle.std.proofs.Common.{◌≡◌, ◌≤◌, length, take}
 use Rattle.events.specs.Fields.{longest}
-use Rattle.events.specs.Writing.{masks_of, stream_of}
+use Rattle.records.specs.Tables.{masks_of}
+use Rattle.events.specs.Writing.{stream_of}
 use Rattle.events.proofs.writer.stream_len.Given as goal
 
 abbrev pub invariant-loop-event : goal.invariant-loop-event

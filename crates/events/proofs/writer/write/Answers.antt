@@ -3,7 +3,8 @@ use Rattle.std.proofs.ByRecursion.{All-push}
 use Rattle.std.proofs.lemmas.List.{take_all, take_more}
 use Rattle.std.specs.List.{AllByRecursion}
 use Rattle.records.proofs.ReachLaws.{sound_bytes}
-use Rattle.events.specs.Writing.{event_bytes, masks_of, stream_of, Fit}
+use Rattle.records.specs.Tables.{masks_of}
+use Rattle.events.specs.Writing.{event_bytes, stream_of, Fit}
 use Rattle.events.proofs.Puts.{no_event, stream_more, stream_length_more, stream_part, stream_all, next_put}
 use Rattle.events.proofs.StreamLaws.{written_accepted}
 use Rattle.events.proofs.writer.write.Goals as goal

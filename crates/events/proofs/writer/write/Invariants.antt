@@ -1,6 +1,7 @@
 use Rattle.std.proofs.Common.{◌≡◌, ◌++◌, length, take, drop}
 use Rattle.std.specs.List.{AllByRecursion}
-use Rattle.events.specs.Writing.{masks_of, stream_of, Fit}
+use Rattle.records.specs.Tables.{masks_of}
+use Rattle.events.specs.Writing.{stream_of, Fit}
 use Rattle.events.proofs.writer.write.Given as goal
 
 -- the table and the events so far stand at the front

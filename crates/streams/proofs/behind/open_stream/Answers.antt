@@ -3,7 +3,7 @@ use Rattle.std.proofs.lemmas.Result.{err_from_is_err_and}
 use Rattle.records.proofs.ReachLaws.{holds_bytes, sound_bytes}
 use Rattle.events.specs.Answers.{Answers}
 use Rattle.events.specs.Fields.{read_at, table}
-use Rattle.events.specs.Writing.{masks_of}
+use Rattle.records.specs.Tables.{masks_of}
 use Rattle.streams.proofs.behind.open_stream.Goals as goal
 
 pub returns-in_err-new : goal.returns-in_err-new

@@ -1,7 +1,7 @@
 use Rattle.std.proofs.Common.{vec_items, sym, subst, arith, rules}
 use Rattle.records.specs.declared.reach.Reach.{Reach}
 use Rattle.events.specs.Streams.{FirstTable, SaysRest, ReadWhole}
-use Rattle.events.specs.Writing.{masks_of}
+use Rattle.records.specs.Tables.{masks_of}
 use Rattle.events.proofs.StreamLaws.{read_whole, accepted_from}
 use Rattle.streams.proofs.stream.read_stream.Goals as goal
 
