@@ -1,6 +1,6 @@
-use Rattle.std.proofs.Common.{◌+◌, length, ap, ◌∙◌, arith}
+use Rattle.std.proofs.Common.{◌+◌, length, ap, arith}
 use Rattle.records.specs.Tables.{masks_of}
-use Rattle.events.proofs.Puts.{stream_length_more, stream_part, stream_all}
+use Rattle.events.proofs.Puts.{stream_length_more, stream_part}
 use Rattle.events.proofs.writer.stream_len.Goals as goal
 
 pub returns-then-len-gt-LONGEST : goal.returns-then-len-gt-LONGEST
@@ -17,8 +17,3 @@ loop-event-preserved c =
     let more = stream_length_more (masks_of c.args.table.now) c.args.events.now c.loop-event.event-index c.loop-event-test.true in
     let one = ap length c.encode.ensures.bytes in
     (omega arith, omega arith)
-
-pub returns : goal.returns
-returns c =
-    let all = stream_all (masks_of c.args.table.now) c.args.events.now c.loop-event.event-index c.loop-event-test.false in
-    (c.loop-event.invariant.0 ∙ ap length all, c.loop-event.invariant.1)
