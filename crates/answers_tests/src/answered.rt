@@ -6,7 +6,7 @@ use boards::outcome::Outcome;
 use events::event::Event;
 use records::fault::NetFault;
 use records::mask::Mask;
-use records::notice::{Action, Decided, Notice};
+use records::notice::{Action, Decided, HandIn, Notice};
 use records::stamp::{Pair, Stamp};
 use std::process::Abort;
 use std::test::Fail;
@@ -27,7 +27,7 @@ fn check_event(
 }
 
 fn hand_in() -> Event {
-    Event::HandIn {
+    Event::HandIn(HandIn {
         port: 0,
         dispatcher: 0,
         reading: 100,
@@ -36,7 +36,7 @@ fn hand_in() -> Event {
         berth: 4,
         action: 1,
         vessel: 7,
-    }
+    })
 }
 
 fn decide() -> Event {

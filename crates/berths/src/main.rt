@@ -2,33 +2,39 @@
 // the number of the refusal that ends the run.
 #![tactic(auto)]
 
+ghost use Rattle.std.specs.Prelude.{◌≡◌, ◌<◌, IfOk, OnSome};
+
 use events::event::Field;
 use events::reader::{LONGEST, Reader};
 use records::reach::Reach;
 use std::io;
 use std::io::Read;
 
-// Prints the line of the next field, and tells whether the run goes on.
-fn print_next(rt: &HostRuntime, reader: &mut Reader) -> io::Result<bool> {
-    let place = reader.place();
-    let refusal = match reader.next() {
-        Ok(None) => return Ok(false),
-        Ok(Some(Field::Event(event))) => {
-            let letter = event.letter();
-            println!(rt; "{place} {letter} 0")?;
-            return Ok(true);
+// The letter of the next field, or the number of its refusal; none at the end of the stream.
+fn next_letter(reader: &mut Reader) -> Result<Option<char>, u8>
+    ensures stream { reader.new.stream.now ≡ reader.old.stream.now }
+    ensures onward { IfOk result (λ o. OnSome o (reader.old.place < reader.new.place)) }
+{
+    match reader.next().map_err(|fault| fault.number())? {
+        Some(Field::Event(event)) => Ok(Some(event.letter())),
+        Some(Field::Table(masks)) => {
+            Reach::new(masks).map_err(|fault| fault.number())?;
+            Ok(Some('T'))
         }
-        Ok(Some(Field::Table(masks))) => match Reach::new(masks) {
-            Ok(_) => {
-                println!(rt; "{place} T 0")?;
-                return Ok(true);
-            }
-            Err(fault) => fault.number(),
-        },
-        Err(fault) => fault.number(),
-    };
-    println!(rt; "{place} X {refusal}")?;
-    Ok(false)
+        None => Ok(None),
+    }
+}
+
+// Prints the lines of the fields that are left.
+fn print_fields(rt: &HostRuntime, mut reader: Reader) -> io::Result<()> {
+    'fields: loop {
+        let place = reader.place();
+        match next_letter(&mut reader) {
+            Ok(Some(letter)) => println!(rt; "{place} {letter} 0")?,
+            Ok(None) => return Ok(()),
+            Err(number) => return println!(rt; "{place} X {number}"),
+        }
+    }
 }
 
 fn main(rt: HostRuntime) -> io::Result<()> {
@@ -36,12 +42,5 @@ fn main(rt: HostRuntime) -> io::Result<()> {
     rt.stdin()
         .take(LONGEST as u64 + 1)
         .read_to_end(&mut stream)?;
-    let mut reader = Reader::new(stream.as_slice());
-    // a field has three bytes at least, so that the end comes before the calls run out
-    for _ in 0..=stream.len() {
-        if !print_next(&rt, &mut reader)? {
-            break;
-        }
-    }
-    Ok(())
+    print_fields(&rt, Reader::new(stream.as_slice()))
 }

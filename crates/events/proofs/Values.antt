@@ -1,12 +1,12 @@
 -- Values and events are the same thing written twice. Assumes nothing.
-use Rattle.std.proofs.Common.{◌≡◌, ℕ, zero, suc, ◌+◌, ◌*◌, ◌/◌, ◌%◌, ◌^◌, ◌<◌, List, [], ◌∷◌, ◌++◌, length, get_or, drop, Some, None, Option, sym, refl, ap, ◌∙◌, subst, ⊎_elim, mod-eq_of_lt, arith, shr-shr}
+use Rattle.std.proofs.Common.{◌≡◌, ℕ, zero, suc, ◌+◌, ◌*◌, ◌/◌, ◌%◌, ◌^◌, ◌<◌, List, [], ◌∷◌, length, get_or, drop, Some, None, Option, sym, refl, ap, ◌∙◌, subst, ⊎_elim, mod-eq_of_lt, arith, shr-shr}
 use Rattle.std.proofs.lemmas.Nat.{div-add-mod', div_below}
 use Rattle.std.proofs.lemmas.List.{drop_more, drop_all, get_or_past}
 use Rattle.std.proofs.lemmas.Bool.{cases_eq, ne_eqb}
 use Rattle.events.specs.declared.event.Event.{Event}
 use Rattle.events.specs.declared.event.Event.TheVariants.{HandIn, Decide, Clear, Bring, Fetch, Release}
 use Rattle.events.specs.Fields.{at16, at32, size_of, event_of}
-use Rattle.events.specs.Writing.{be16, be32, tag_of, value_of, event_bytes, Fit}
+use Rattle.events.specs.Writing.{be16, be32, tag_of, value_of, Fit}
 
 -- each is below 256
 abbrev pub Bytes : List ℕ → Type 0
@@ -60,10 +60,6 @@ four_fit xs e p q r s (suc (suc zero)) = r
 four_fit xs e p q r s (suc (suc (suc zero))) = s
 four_fit xs e p q r s (suc (suc (suc (suc i)))) = subst (λ n. n < 2 ^ 16) (sym (get_or_past xs (suc (suc (suc (suc i)))) 0 (omega arith))) (omega arith)
 
--- the bytes of a decide, by its four cuts
-pub decide_bytes : (port number : ℕ) (cuts : List ℕ) → length cuts ≡ 4 → event_bytes (Decide port number cuts) ≡ 2 ∷ 0 ∷ 11 ∷ port ∷ (be16 number ++ (be16 (get_or cuts 0 0) ++ (be16 (get_or cuts 1 0) ++ (be16 (get_or cuts 2 0) ++ be16 (get_or cuts 3 0)))))
-decide_bytes port number cuts e = ap (λ xs. event_bytes (Decide port number xs)) (four cuts e)
-
 pub record Known (e : Event) : Type 0 where
   pub size : size_of (tag_of e) ≡ Some (length (value_of e))
   pub short : length (value_of e) < 2 ^ 16
@@ -80,10 +76,10 @@ decide_known port number a b c d f =
     record { size = refl; short = omega arith; event = cc; tag = omega arith }
 
 pub known : (e : Event) → Fit e → Known e
-known (HandIn port dispatcher reading mask home berth action vessel) f =
-    let r = from32 reading f.2 in
-    let v = from16 vessel f.7 in
-    record { size = refl; short = omega arith; event = cc; tag = omega arith }
+known (HandIn x) f =
+    let r = from32 x.reading f.2 in
+    let v = from16 x.vessel f.7 in
+    record { size = refl; short = omega arith; event = rw (r, v) refl; tag = omega arith }
 known (Decide port number cuts) f = let e = four cuts f.2 in subst (λ xs. Known (Decide port number xs)) (sym e) (decide_known port number _ _ _ _ (subst (λ xs. Fit (Decide port number xs)) e f))
 known (Clear port reading) f = let r = from32 reading f.1 in record { size = refl; short = omega arith; event = cc; tag = omega arith }
 known (Bring from to) f = record { size = refl; short = omega arith; event = refl; tag = omega arith }

@@ -25,7 +25,7 @@ size_of t =
 -- the event that a value says under a tag of 1 to 6
 abbrev pub event_of : ℕ → List ℕ → Event
 event_of t v =
-    cond (t == 1) (HandIn (slice_index v 0) (slice_index v 1) (at32 v 2) (slice_index v 6) (slice_index v 7) (slice_index v 8) (slice_index v 9) (at16 v 10))
+    cond (t == 1) (HandIn (record { port = slice_index v 0; dispatcher = slice_index v 1; reading = at32 v 2; mask = slice_index v 6; home = slice_index v 7; berth = slice_index v 8; action = slice_index v 9; vessel = at16 v 10 }))
     (cond (t == 2) (Decide (slice_index v 0) (at16 v 1) (at16 v 3 ∷ at16 v 5 ∷ at16 v 7 ∷ at16 v 9 ∷ []))
     (cond (t == 3) (Clear (slice_index v 0) (at32 v 1))
     (cond (t == 4) (Bring (slice_index v 0) (slice_index v 1))

@@ -5,7 +5,7 @@ use Rattle.events.specs.declared.event.Event.TheVariants.{HandIn, Decide, Clear,
 
 -- H, D, C, B, F and R, as the codes of these characters
 abbrev pub letter_of : Event → ℕ
-letter_of (HandIn port dispatcher reading mask home berth action vessel) = 72
+letter_of (HandIn x) = 72
 letter_of (Decide port number cuts) = 68
 letter_of (Clear port reading) = 67
 letter_of (Bring from to) = 66

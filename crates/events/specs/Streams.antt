@@ -1,15 +1,12 @@
 -- What a whole stream says, and when it is accepted. Assumes nothing.
-use Rattle.std.specs.Prelude.{◌≡◌, ℕ, ◌<◌, ◌≤◌, ◌⊎◌, List, [], ◌∷◌, ◌++◌, length, drop, Some, None, Ok, Err, Option, Result}
+use Rattle.std.specs.Prelude.{◌≡◌, ℕ, ◌<◌, ◌≤◌, List, [], ◌∷◌, ◌++◌, length, drop}
 use Rattle.records.specs.declared.fault.OutputFault.{OutputFault}
 use Rattle.records.specs.declared.fault.OutputFault.TheVariants.{StreamTooLong, MemoryTooShort}
-use Rattle.records.specs.declared.fault.ReaderFault.{ReaderFault}
 use Rattle.records.specs.declared.fault.TableFault.{TableFault}
 use Rattle.std.specs.List.{AllByRecursion}
 use Rattle.records.specs.Reaching.{Refuses}
 use Rattle.events.specs.declared.event.Event.{Event}
-use Rattle.events.specs.declared.part.Part.{Part}
-use Rattle.events.specs.declared.part.Part.TheVariants.{Reader, Table, Memory}
-use Rattle.events.specs.Fields.{Reading, table, event, end, refused, read_at, longest}
+use Rattle.events.specs.Fields.{table, event, end, read_at, longest}
 use Rattle.events.specs.Writing.{stream_of, Fit}
 
 -- from a place on, a stream says these events, one field after the other, and from there on reads this way
@@ -48,35 +45,11 @@ pub record FirstTable (stream masks : List ℕ) (behind : ℕ) : Type 0 where
   pub first : read_at stream 0 ≡ table masks behind
   pub sound : IsTable masks
 
--- the first field is refused by the reader, or its masks by the table
-abbrev pub FirstRefused : List ℕ → Part → Type 0
-FirstRefused stream (Reader fault) = read_at stream 0 ≡ refused fault
-FirstRefused stream (Table fault) = (masks : List ℕ) × (behind : ℕ) × (read_at stream 0 ≡ table masks behind) × Refuses masks fault
-FirstRefused stream Memory = ⊥
-
--- what one call behind the table answers, at the place p, where it found this reading; the reader then stands at q
-abbrev pub EventAnswers : Reading → ℕ → ℕ → Result (Option Event) ReaderFault → Type 0
-EventAnswers found p q (Ok (Some e)) = (found ≡ event e q) × (p < q)
-EventAnswers found p q (Ok None) = (found ≡ end) × (q ≡ p)
-EventAnswers found p q (Err fault) = (found ≡ refused fault) × (q ≡ p)
-
--- the reader stops at a later field
-abbrev pub StopsAt : List ℕ → ℕ → Part → Type 0
-StopsAt stream place (Reader fault) = read_at stream place ≡ refused fault
-StopsAt stream place (Table fault) = ⊥
-StopsAt stream place Memory = (e : Event) × (behind : ℕ) × (read_at stream place ≡ event e behind)
-
 -- from a place on the stream says these events, and then ends
 pub record SaysRest (stream : List ℕ) (from : ℕ) (events : List Event) : Type 0 where
   pub last : ℕ
   pub says : Says stream from events last
   pub ends : read_at stream last ≡ end
-
--- from a place on the stream says some events, and then the field at another place is refused by the reader, or found no memory
-pub record RestRefused (stream : List ℕ) (from place : ℕ) (part : Part) : Type 0 where
-  pub events : List Event
-  pub says : Says stream from events place
-  pub why : StopsAt stream place part
 
 -- the whole stream was read: it is accepted as this table and these events, is their writing byte for byte, and no
 -- others have that writing
@@ -84,7 +57,3 @@ pub record ReadWhole (stream masks : List ℕ) (events : List Event) : Type 0 wh
   pub accepted : Accepted stream masks events
   pub written : stream ≡ stream_of masks events
   pub only : (masks' : List ℕ) (events' : List Event) → IsTable masks' → AllByRecursion Fit events' → stream_of masks' events' ≡ stream → (masks' ≡ masks) × (events' ≡ events)
-
--- the first fault of a stream: nothing before its place is refused
-abbrev pub FirstFault : List ℕ → ℕ → Part → Type 0
-FirstFault stream place part = ((place ≡ 0) × FirstRefused stream part) ⊎ ((masks : List ℕ) × (behind : ℕ) × FirstTable stream masks behind × RestRefused stream behind place part)

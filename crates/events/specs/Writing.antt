@@ -18,7 +18,7 @@ each16 (n ∷ ns) = be16 n ++ each16 ns
 
 -- the tag of an event
 abbrev pub tag_of : Event → ℕ
-tag_of (HandIn port dispatcher reading mask home berth action vessel) = 1
+tag_of (HandIn x) = 1
 tag_of (Decide port number cuts) = 2
 tag_of (Clear port reading) = 3
 tag_of (Bring from to) = 4
@@ -27,7 +27,7 @@ tag_of (Release port) = 6
 
 -- its items, in the order of the format
 abbrev pub value_of : Event → List ℕ
-value_of (HandIn port dispatcher reading mask home berth action vessel) = port ∷ dispatcher ∷ (be32 reading ++ (mask ∷ home ∷ berth ∷ action ∷ be16 vessel))
+value_of (HandIn x) = x.port ∷ x.dispatcher ∷ (be32 x.reading ++ (x.mask ∷ x.home ∷ x.berth ∷ x.action ∷ be16 x.vessel))
 value_of (Decide port number cuts) = port ∷ (be16 number ++ each16 cuts)
 value_of (Clear port reading) = port ∷ be32 reading
 value_of (Bring from to) = from ∷ to ∷ []
@@ -55,7 +55,7 @@ stream_of masks events = table_bytes masks ++ events_bytes events
 
 -- each number of an event fits its place, as it does of every value that a program can hold
 abbrev pub Fit : Event → Type 0
-Fit (HandIn port dispatcher reading mask home berth action vessel) = (port < 256) × (dispatcher < 256) × (reading < 2 ^ 32) × (mask < 256) × (home < 256) × (berth < 256) × (action < 256) × (vessel < 2 ^ 16)
+Fit (HandIn x) = (x.port < 256) × (x.dispatcher < 256) × (x.reading < 2 ^ 32) × (x.mask < 256) × (x.home < 256) × (x.berth < 256) × (x.action < 256) × (x.vessel < 2 ^ 16)
 Fit (Decide port number cuts) = (port < 256) × (number < 2 ^ 16) × (length cuts ≡ 4) × ((i : ℕ) → slice_index cuts i < 2 ^ 16)
 Fit (Clear port reading) = (port < 256) × (reading < 2 ^ 32)
 Fit (Bring from to) = (from < 256) × (to < 256)

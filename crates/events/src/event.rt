@@ -2,18 +2,11 @@
 ghost use Rattle.events.specs.Letters.{letter_of};
 ghost use Rattle.std.specs.Prelude.{◌≡◌};
 
+use records::notice::HandIn;
+
 #[derive(Clone, Copy, PartialEq, Eq, Debug)]
 pub enum Event {
-    HandIn {
-        port: u8,
-        dispatcher: u8,
-        reading: u32,
-        mask: u8,
-        home: u8,
-        berth: u8,
-        action: u8,
-        vessel: u16,
-    },
+    HandIn(HandIn),
     Decide {
         port: u8,
         number: u16,
@@ -42,7 +35,7 @@ impl Event {
         ensures { result ≡ letter_of self }
     {
         match self {
-            Event::HandIn { .. } => 'H',
+            Event::HandIn(_) => 'H',
             Event::Decide { .. } => 'D',
             Event::Clear { .. } => 'C',
             Event::Bring { .. } => 'B',

@@ -2,9 +2,8 @@
 #![tactic(auto)]
 
 pub mod event; // the events, one case for each tag
-pub mod part; // where and why a stream ends a run
 pub mod reader; // reads a stream field by field
-pub mod stream; // reads a whole stream
+mod tag; // the tags of fields
 pub mod writer; // writes a table and events as a stream
 
 pub use event::{Event, Field};

@@ -1,16 +1,17 @@
 // Reads a stream field by field.
-ghost use Rattle.std.specs.Prelude.{◌≡◌, ℕ, ◌+◌, ◌<◌, ◌≤◌, length, IfNone, IfOk, IfSome, Some, OnErr, OnSome};
-ghost use Rattle.events.specs.Answers.{Answers};
-ghost use Rattle.events.specs.Fields.{at16, at32, size_of, event_of, field_fault, read_at};
+ghost use Rattle.std.specs.Prelude.{◌≡◌, ℕ, ◌+◌, ◌<◌, ◌≤◌, false, length, IfNone, IfOk, IfSome, OnErr, OnSome};
+ghost use Rattle.std.specs.Result.{result_err};
+ghost use Rattle.events.specs.Answers.{Answers, Tells};
+ghost use Rattle.events.specs.Fields.{at16, at32, size_of, wrong_for, field_fault, read_at};
+ghost use Rattle.events.specs.Tags.{number_of};
 
 use crate::event::{Event, Field};
+use crate::tag::Tag;
 use records::fault::ReaderFault;
+use records::notice::HandIn;
 
 // The longest stream that is read, in bytes.
 pub const LONGEST: usize = 32768;
-
-// The tag of the first field, which holds the table's masks.
-pub(crate) const TABLE: u8 = 16;
 
 fn u16_at(bytes: &[u8], i: usize) -> u16
     requires { i + 2 ≤ length bytes.now }
@@ -26,28 +27,14 @@ fn u32_at(bytes: &[u8], i: usize) -> u32
     u32::from_be_bytes([bytes[i], bytes[i + 1], bytes[i + 2], bytes[i + 3]])
 }
 
-// How many bytes the value of an event has under its tag.
-fn size(tag: u8) -> Option<usize>
-    ensures { result ≡ size_of tag }
+// What a field says whose value is all there.
+fn field(tag: Tag, v: &[u8]) -> Field<'_>
+    requires { wrong_for (size_of (number_of tag)) (length v.now) ≡ false }
+    ensures { Tells (number_of tag) v.now result }
 {
-    match tag {
-        1 => Some(12),
-        2 => Some(11),
-        3 => Some(5),
-        4 => Some(2),
-        5 => Some(2),
-        6 => Some(1),
-        _ => None,
-    }
-}
-
-// The event of a value that is all there.
-fn event(tag: u8, v: &[u8]) -> Event
-    requires { size_of tag ≡ Some (length v.now) }
-    ensures { result ≡ event_of tag v.now }
-{
-    match tag {
-        1 => Event::HandIn {
+    Field::Event(match tag {
+        Tag::Table => return Field::Table(v),
+        Tag::HandIn => Event::HandIn(HandIn {
             port: v[0],
             dispatcher: v[1],
             reading: u32_at(v, 2),
@@ -56,48 +43,44 @@ fn event(tag: u8, v: &[u8]) -> Event
             berth: v[8],
             action: v[9],
             vessel: u16_at(v, 10),
-        },
-        2 => Event::Decide {
+        }),
+        Tag::Decide => Event::Decide {
             port: v[0],
             number: u16_at(v, 1),
             cuts: [u16_at(v, 3), u16_at(v, 5), u16_at(v, 7), u16_at(v, 9)],
         },
-        3 => Event::Clear {
+        Tag::Clear => Event::Clear {
             port: v[0],
             reading: u32_at(v, 1),
         },
-        4 => Event::Bring {
+        Tag::Bring => Event::Bring {
             from: v[0],
             to: v[1],
         },
-        5 => Event::Fetch {
+        Tag::Fetch => Event::Fetch {
             port: v[0],
             source: v[1],
         },
-        _ => Event::Release { port: v[0] },
-    }
+        Tag::Release => Event::Release { port: v[0] },
+    })
 }
 
-// Why a field with this tag and length is refused, where so many bytes follow its head.
-fn field_fault(first: bool, tag: u8, len: usize, there: usize) -> Option<ReaderFault>
-    ensures { result ≡ field_fault first tag len there }
+// The tag of a field with this number and length, where so many bytes follow its head; or why the field is refused.
+fn tag_of(first: bool, number: u8, len: usize, there: usize) -> Result<Tag, ReaderFault>
+    ensures tag { IfOk result (λ tag. number_of tag ≡ number) }
+    ensures fault { result_err result ≡ field_fault first number len there }
 {
-    let size = size(tag);
-    if size.is_none() && tag != TABLE {
-        return Some(ReaderFault::UnknownTag);
+    let tag = Tag::try_from(number)?;
+    if first != (tag == Tag::Table) {
+        return Err(ReaderFault::MisplacedTag);
     }
-    if first != (tag == TABLE) {
-        return Some(ReaderFault::MisplacedTag);
-    }
-    if let Some(size) = size {
-        if len != size {
-            return Some(ReaderFault::WrongLength);
-        }
+    if tag.size().is_some_and(|size| len != size) {
+        return Err(ReaderFault::WrongLength);
     }
     if there < len {
-        return Some(ReaderFault::MissingBytes);
+        return Err(ReaderFault::MissingBytes);
     }
-    None
+    Ok(tag)
 }
 
 // A stream, and the place of the field that is read next.
@@ -154,16 +137,10 @@ impl<'a> Reader<'a> {
         if rest.len() < 3 {
             return Err(ReaderFault::LooseBytes);
         }
-        let tag = rest[0];
         let len = u16_at(rest, 1) as usize;
-        if let Some(fault) = field_fault(self.place == 0, tag, len, rest.len() - 3) {
-            return Err(fault);
-        }
+        let tag = tag_of(self.place == 0, rest[0], len, rest.len() - 3)?;
         let value = &rest[3..3 + len];
         self.place += 3 + len;
-        if tag == TABLE {
-            return Ok(Some(Field::Table(value)));
-        }
-        Ok(Some(Field::Event(event(tag, value))))
+        Ok(Some(field(tag, value)))
     }
 }

@@ -8,4 +8,4 @@ mod tables; // which masks make a reach table
 #[cfg(test)]
 mod values; // which event a field says
 #[cfg(test)]
-mod writing; // what is written, and read back
+mod writing; // what is written

@@ -1,6 +1,7 @@
 // Which event a field says: every tag, with numbers that tell each byte from the others, the smallest and the largest.
 use events::event::{Event, Field};
 use events::reader::Reader;
+use records::notice::HandIn;
 use std::test::Fail;
 
 // The event of the second field, if it is one.
@@ -31,7 +32,7 @@ fn hand_in(rt: HostRuntime) {
     let told = second(&[
         16, 0, 2, 2, 1, 1, 0, 12, 3, 4, 1, 2, 3, 4, 5, 6, 7, 8, 9, 10,
     ]);
-    let hand_in = Event::HandIn {
+    let hand_in = Event::HandIn(HandIn {
         port: 3,
         dispatcher: 4,
         reading: 0x01020304,
@@ -40,13 +41,13 @@ fn hand_in(rt: HostRuntime) {
         berth: 7,
         action: 8,
         vessel: 0x090a,
-    };
+    });
     assert_eq!(rt; told, Some(hand_in));
     assert_eq!(rt; hand_in.letter(), 'H');
     let largest = second(&[
         16, 0, 2, 2, 1, 1, 0, 12, 255, 255, 255, 255, 255, 255, 255, 255, 255, 255, 255, 255,
     ]);
-    let all = Event::HandIn {
+    let all = Event::HandIn(HandIn {
         port: 255,
         dispatcher: 255,
         reading: 0xffffffff,
@@ -55,7 +56,7 @@ fn hand_in(rt: HostRuntime) {
         berth: 255,
         action: 255,
         vessel: 0xffff,
-    };
+    });
     assert_eq!(rt; largest, Some(all));
 }
 

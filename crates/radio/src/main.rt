@@ -13,7 +13,6 @@ use events::event::Event;
 use events::reader::LONGEST;
 use radio_box::carrying::carry;
 use radio_box::outcome::Carried;
-use records::fault::NetFault;
 use records::notice::Record;
 use records::reach::Reach;
 use std::io;
@@ -24,60 +23,44 @@ use wires::wire::Wire;
 // Prints what a fetch at the place took.
 fn print_record(rt: &HostRuntime, place: usize, record: Record) -> io::Result<()> {
     match record {
-        Record::Empty(stamp) => {
-            let (clock, step, port) = (stamp.pair.clock, stamp.pair.step, stamp.port);
-            println!(rt; "{place} F 0 {clock}.{step}.{port}")
-        }
+        Record::Empty(stamp) => println!(rt; "{place} F 0 {stamp}"),
         Record::Notice(decided) => {
-            let stamp = decided.stamp;
-            let (clock, step, port) = (stamp.pair.clock, stamp.pair.step, stamp.port);
-            let notice = decided.notice;
-            let (home, berth, vessel) = (notice.home, notice.berth, notice.vessel);
-            println!(rt; "{place} F 0 {clock}.{step}.{port} {home}/{berth} {vessel}")
+            let (stamp, notice) = (decided.stamp, decided.notice);
+            println!(rt;
+                "{place} F 0 {stamp} {}/{} {}",
+                notice.home, notice.berth, notice.vessel
+            )
         }
     }
 }
 
-// Prints what came of the event at the place.
-fn print_carried(rt: &HostRuntime, place: usize, event: Event, carried: Carried) -> io::Result<()> {
-    let letter = event.letter();
-    match carried {
-        Carried::Sent(to) => {
-            let bits = to.bits;
-            println!(rt; "{place} {letter} 0 {bits}")
-        }
-        Carried::Full => {
-            let number = NetFault::LineFull.number();
-            println!(rt; "{place} {letter} {number}")
-        }
-        Carried::Brought => println!(rt; "{place} {letter} 0"),
-        Carried::Took(record) => print_record(rt, place, record),
-        Carried::Nothing => {
-            let number = NetFault::NothingArrived.number();
-            println!(rt; "{place} {letter} {number}")
-        }
-        Carried::Passed => Ok(()),
-    }
-}
-
-// Carries the next event and prints its line, and tells whether the run goes on.
-fn carry_next(
+// Carries the event at the place and prints what came of it, if it is for a box.
+fn carry_event(
     rt: &HostRuntime,
     wire: &mut BagWire,
     table: &Reach,
-    reader: &mut EventReader,
-) -> io::Result<bool> {
-    let place = reader.place();
-    match reader.next() {
-        Ok(None) => Ok(false),
-        Ok(Some(event)) => {
-            print_carried(rt, place, event, carry(wire, table, event))?;
-            Ok(true)
-        }
-        Err(refusal) => {
-            let number = refusal.part.number();
-            println!(rt; "{place} X {number}")?;
-            Ok(false)
+    place: usize,
+    event: Event,
+) -> io::Result<()> {
+    let letter = event.letter();
+    match carry(wire, table, event) {
+        Some(Ok(Carried::Sent(to))) => println!(rt; "{place} {letter} 0 {}", to.bits),
+        Some(Ok(Carried::Brought)) => println!(rt; "{place} {letter} 0"),
+        Some(Ok(Carried::Took(record))) => print_record(rt, place, record),
+        Some(Err(fault)) => println!(rt; "{place} {letter} {}", fault.number()),
+        None => Ok(()),
+    }
+}
+
+// Carries the events that are left, up to the end of the stream or the refusal.
+fn carry_events(rt: &HostRuntime, table: &Reach, mut reader: EventReader) -> io::Result<()> {
+    let mut wire = BagWire::new();
+    'fields: loop {
+        let place = reader.place();
+        match reader.next() {
+            Ok(Some(event)) => carry_event(rt, &mut wire, table, place, event)?,
+            Ok(None) => return Ok(()),
+            Err(refusal) => return println!(rt; "{place} X {}", refusal.part.number()),
         }
     }
 }
@@ -87,21 +70,8 @@ fn main(rt: HostRuntime) -> io::Result<()> {
     rt.stdin()
         .take(LONGEST as u64 + 1)
         .read_to_end(&mut stream)?;
-    let opened = match open_stream(stream.as_slice()) {
-        Ok(opened) => opened,
-        Err(part) => {
-            let number = part.number();
-            return println!(rt; "0 X {number}");
-        }
-    };
-    let table = opened.table();
-    let mut wire = BagWire::new();
-    let mut reader = opened.events(stream.as_slice());
-    // a field has three bytes at least, so that the end comes before the calls run out
-    for _ in 0..=stream.len() {
-        if !carry_next(&rt, &mut wire, &table, &mut reader)? {
-            break;
-        }
+    match open_stream(stream.as_slice()) {
+        Ok(opened) => carry_events(&rt, &opened.table(), opened.events(stream.as_slice())),
+        Err(part) => println!(rt; "0 X {}", part.number()),
     }
-    Ok(())
 }

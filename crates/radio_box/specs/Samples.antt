@@ -6,10 +6,11 @@ use Rattle.records.specs.declared.mask.Mask.{Mask}
 use Rattle.records.specs.declared.notice.Action.{Action}
 use Rattle.records.specs.declared.notice.Action.TheVariants.{Take, Leave}
 use Rattle.records.specs.declared.notice.Decided.{Decided}
+use Rattle.records.specs.declared.notice.HandIn.{HandIn}
 use Rattle.records.specs.declared.notice.Record.TheVariants.{Notice, Empty}
 use Rattle.records.specs.declared.stamp.Stamp.{Stamp}
 use Rattle.events.specs.declared.event.Event.{Event}
-use Rattle.events.specs.declared.event.Event.TheVariants.{HandIn, Decide, Clear, Bring, Fetch, Release}
+use Rattle.events.specs.declared.event.Event.TheVariants as event
 use Rattle.radio_box.specs.declared.sample.Sample.{Sample}
 
 -- the action with this number
@@ -24,27 +25,27 @@ stamp_of reading port = record { pair = record { clock = reading; step = 0 }; po
 abbrev pub Beside : ℕ → ℕ → ℕ → Type 0
 Beside port mask others = (q : ℕ) → named others q ≡ (named mask q && not (q == port))
 
--- the notice that a dispatcher hands in, as a sample: a box counts nothing, so its count is 0
-abbrev pub notice_of : ℕ → ℕ → ℕ → ℕ → ℕ → ℕ → Action → ℕ → Decided
-notice_of port dispatcher reading mask home berth action vessel = record {
-  notice = record { source = port; dispatcher = dispatcher; count = 0; to = record { bits = mask }; home = home; berth = berth; action = action; vessel = vessel };
-  stamp = stamp_of reading port;
+-- the notice that a dispatcher hands in, with this action, as a sample: a box counts nothing, so its count is 0
+abbrev pub notice_of : HandIn → Action → Decided
+notice_of x action = record {
+  notice = record { source = x.port; dispatcher = x.dispatcher; count = 0; to = record { bits = x.mask }; home = x.home; berth = x.berth; action = action; vessel = x.vessel };
+  stamp = stamp_of x.reading x.port;
 }
 
 -- by a table of these masks, the sample is what is sent of the event
 abbrev pub Sends : List Mask → Event → Sample → Type 0
-Sends masks (HandIn port dispatcher reading mask home berth action vessel) s = (a : Action) × (action_of action ≡ Some a) × (s.from ≡ port) × Beside port mask s.to.bits × (s.record ≡ Notice (notice_of port dispatcher reading mask home berth a vessel))
-Sends masks (Decide port number cuts) s = ⊥
-Sends masks (Clear port reading) s = (s.from ≡ port) × (s.to ≡ slice_index_or masks port nobody) × (s.record ≡ Empty (stamp_of reading port))
-Sends masks (Bring from to) s = ⊥
-Sends masks (Fetch port source) s = ⊥
-Sends masks (Release port) s = ⊥
+Sends masks (event.HandIn x) s = (a : Action) × (action_of x.action ≡ Some a) × (s.from ≡ x.port) × Beside x.port x.mask s.to.bits × (s.record ≡ Notice (notice_of x a))
+Sends masks (event.Decide port number cuts) s = ⊥
+Sends masks (event.Clear port reading) s = (s.from ≡ port) × (s.to ≡ slice_index_or masks port nobody) × (s.record ≡ Empty (stamp_of reading port))
+Sends masks (event.Bring from to) s = ⊥
+Sends masks (event.Fetch port source) s = ⊥
+Sends masks (event.Release port) s = ⊥
 
 -- nothing is sent of the event
 abbrev pub SendsNothing : Event → Type 0
-SendsNothing (HandIn port dispatcher reading mask home berth action vessel) = action_of action ≡ None
-SendsNothing (Decide port number cuts) = Unit {0}
-SendsNothing (Clear port reading) = ⊥
-SendsNothing (Bring from to) = Unit {0}
-SendsNothing (Fetch port source) = Unit {0}
-SendsNothing (Release port) = Unit {0}
+SendsNothing (event.HandIn x) = action_of x.action ≡ None
+SendsNothing (event.Decide port number cuts) = Unit {0}
+SendsNothing (event.Clear port reading) = ⊥
+SendsNothing (event.Bring from to) = Unit {0}
+SendsNothing (event.Fetch port source) = Unit {0}
+SendsNothing (event.Release port) = Unit {0}

@@ -6,14 +6,8 @@ use records::notice::Record;
 pub enum Carried {
     // its sample was put on the line to each of these ports
     Sent(Mask),
-    // one of these lines was full, and nothing was put
-    Full,
     // more of its line may have arrived
     Brought,
     // this record had arrived on its line, and was taken
     Took(Record),
-    // nothing had arrived there
-    Nothing,
-    // it is not for a box
-    Passed,
 }

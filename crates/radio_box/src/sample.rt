@@ -1,5 +1,5 @@
 // What the box sends of an event: a sample record, as if the event were decided at once.
-ghost use Rattle.radio_box.specs.Samples.{action_of, stamp_of, Beside, Sends, SendsNothing};
+ghost use Rattle.radio_box.specs.Samples.{stamp_of, Beside, Sends, SendsNothing};
 ghost use Rattle.records.specs.declared.notice.Record.TheVariants.{Notice as NoticeRecord};
 ghost use Rattle.std.specs.Prelude.{◌≡◌, MatchOption};
 
@@ -17,16 +17,6 @@ pub struct Sample {
     pub record: Record,
 }
 
-fn action(number: u8) -> Option<Action>
-    ensures { result ≡ action_of number }
-{
-    match number {
-        1 => Some(Action::Take),
-        2 => Some(Action::Leave),
-        _ => None,
-    }
-}
-
 fn stamp(reading: u32, port: u8) -> Stamp
     ensures { result ≡ stamp_of reading port }
 {
@@ -35,17 +25,6 @@ fn stamp(reading: u32, port: u8) -> Stamp
         step: 0,
     };
     Stamp { pair, port }
-}
-
-// The ports that the mask names, without this one.
-fn beside(port: u8, mask: Mask) -> Mask
-    ensures { Beside port mask.bits result.bits }
-{
-    if mask.names(port) {
-        let bits = mask.bits ^ (1u8 << port);
-        return Mask { bits };
-    }
-    mask
 }
 
 // The notice, stamped with its dispatcher's reading, for each port of its mask but its own.
@@ -57,7 +36,7 @@ fn sample_of_notice(notice: Notice, reading: u32) -> Sample
     let stamp = stamp(reading, notice.source);
     Sample {
         from: notice.source,
-        to: beside(notice.source, notice.to),
+        to: notice.to.without(notice.source),
         record: Record::Notice(Decided { notice, stamp }),
     }
 }
@@ -68,27 +47,18 @@ pub fn sample_of(table: &Reach, event: Event) -> Option<Sample>
     ensures { MatchOption result (SendsNothing event) (Sends table.now.masks event) }
 {
     match event {
-        Event::HandIn {
-            port,
-            dispatcher,
-            reading,
-            mask,
-            home,
-            berth,
-            action: number,
-            vessel,
-        } => {
+        Event::HandIn(hand_in) => {
             let notice = Notice {
-                source: port,
-                dispatcher,
+                source: hand_in.port,
+                dispatcher: hand_in.dispatcher,
                 count: 0,
-                to: Mask { bits: mask },
-                home,
-                berth,
-                action: action(number)?,
-                vessel,
+                to: Mask { bits: hand_in.mask },
+                home: hand_in.home,
+                berth: hand_in.berth,
+                action: Action::try_from(hand_in.action).ok()?,
+                vessel: hand_in.vessel,
             };
-            Some(sample_of_notice(notice, reading))
+            Some(sample_of_notice(notice, hand_in.reading))
         }
         Event::Clear { port, reading } => Some(Sample {
             from: port,

@@ -25,7 +25,7 @@ module _ {depth : ℕ} {rule : Rule} {v w : View} {event x : Event} where
 
 -- in any case, after a history
 pub keeps_after : (depth : ℕ) (rule : Rule) (v w : View) (event : Event) (e : Told) → Keeps depth rule v event e w → KeptAfter depth rule v e w
-keeps_after depth rule v w (HandIn port dispatcher reading mask home berth action vessel) e k h l = (k.does, k.lives h l)
+keeps_after depth rule v w (HandIn x) e k h l = (k.does, k.lives h l)
 keeps_after depth rule v w (Decide port number cuts) e k h l = (k.does, k.lives h l)
 keeps_after depth rule v w (Clear port reading) e k h l = (k.does, k.lives h l)
 keeps_after depth rule v w (Bring from to) e k h l = (k.does, k.lives h l)

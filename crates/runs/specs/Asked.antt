@@ -15,7 +15,7 @@ use Rattle.nets.specs.Promises.{Kept, KeptAfter}
 
 -- the call that an event is; a decide is given a working list of sixteen places
 abbrev pub call_by : Event → Call
-call_by (HandIn port dispatcher reading mask home berth action vessel) = hand_in (hand_in_call port dispatcher reading mask home berth action vessel)
+call_by (HandIn x) = hand_in (hand_in_call x.port x.dispatcher x.reading x.mask x.home x.berth x.action x.vessel)
 call_by (Decide port number cuts) = decide (record { port = port; number = number; cuts = cuts; places = 16 })
 call_by (Clear port reading) = clear port reading
 call_by (Bring from to) = bring from to
@@ -35,7 +35,7 @@ answer_in (refused call fault) = Err fault
 -- what the net promises of the event's call: what it does, and the law of one order after every history that led to the net,
 -- lengthened by this call; of a fetch, both after such a history
 abbrev pub Keeps : ℕ → Rule → View → Event → Told → View → Type 0
-Keeps depth rule v (HandIn port dispatcher reading mask home berth action vessel) e w = Kept depth rule v e w
+Keeps depth rule v (HandIn x) e w = Kept depth rule v e w
 Keeps depth rule v (Decide port number cuts) e w = Kept depth rule v e w
 Keeps depth rule v (Clear port reading) e w = Kept depth rule v e w
 Keeps depth rule v (Bring from to) e w = Kept depth rule v e w

@@ -2,7 +2,7 @@
 use Rattle.std.specs.Prelude.{◌≡◌, ℕ, ◌<◌, ◌≤◌, Bool, true, false, List, [], ◌∷◌, ◌++◌, map, reverse, length, Ok, Err, Result}
 use Rattle.records.specs.declared.fault.NetFault.{NetFault}
 use Rattle.records.specs.declared.reach.Reach.{Reach}
-use Rattle.records.specs.Reaching.{mask_bytes}
+use Rattle.records.specs.Tables.{masks_of}
 use Rattle.boards.specs.Rules.{Rule}
 use Rattle.streams.specs.declared.part.Refusal.{Refusal}
 use Rattle.streams.specs.declared.part.StreamFault.{StreamFault}
@@ -59,7 +59,7 @@ pub record RanEvents (depth : ℕ) (rule : Rule) (stream : List ℕ) (from : ℕ
 pub record RanStream (depth : ℕ) (rule : Rule) (stream : List ℕ) (answers : List Answered) (ending : Result (Unit {0}) StreamFault) (w : View) : Type 0 where
   pub table : Reach
   pub behind : ℕ
-  pub first : FirstTable stream (mask_bytes table.ports table.masks) behind
+  pub first : FirstTable stream (masks_of table) behind
   pub on_it : w.table ≡ table_of table
   pub events : RanEvents depth rule stream behind answers ending w
 

@@ -17,17 +17,15 @@ pub fn run_event<W: Wire, B: Board>(net: &mut Net<W, B>, event: Event) -> Result
     ensures same { OnErr result (SameNet net.old net.new) }
 {
     Ok(match event {
-        Event::HandIn {
-            port,
-            dispatcher,
-            reading,
-            mask,
-            home,
-            berth,
-            action,
-            vessel,
-        } => Answer::Count(net.hand_in(
-            port, dispatcher, reading, mask, home, berth, action, vessel,
+        Event::HandIn(x) => Answer::Count(net.hand_in(
+            x.port,
+            x.dispatcher,
+            x.reading,
+            x.mask,
+            x.home,
+            x.berth,
+            x.action,
+            x.vessel,
         )?),
         Event::Decide { port, number, cuts } => {
             let mut working = [Decided::default(); 16];

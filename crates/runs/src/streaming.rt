@@ -41,14 +41,13 @@ fn run_next<W: Wire, B: Board>(
     ensures turn { TurnAnswers W.depth B.rule events.old.stream.now events.old.place answers.old.items (view W.line B.shown net.old) events.new.place answers.new.items (view W.line B.shown net.new) result }
 {
     let at = events.place();
-    let event = match events.next()? {
-        Some(event) => event,
-        None => return Ok(false),
+    let Some(event) = events.next()? else {
+        return Ok(false);
     };
     // memory first: an event that is run is answered
-    if answers.reserve(1).is_err() {
-        return Err(StreamFault::NoMemory { place: at });
-    }
+    answers
+        .reserve(1)
+        .map_err(|_| StreamFault::NoMemory { place: at })?;
     let answer = run_event(net, event);
     let answered = Answered {
         place: at,

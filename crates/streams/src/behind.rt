@@ -2,8 +2,8 @@
 ghost use Rattle.std.specs.Prelude.{◌≡◌, ◌<◌, ◌≤◌, length, IfOk, MatchResult, OnErr, OnSome};
 ghost use Rattle.events.specs.Fields.{read_at};
 ghost use Rattle.events.specs.Streams.{FirstTable};
+ghost use Rattle.records.specs.Tables.{masks_of};
 ghost use Rattle.streams.specs.Streams.{FirstRefused, EventAnswers};
-ghost use Rattle.records.specs.Reaching.{mask_bytes};
 
 use crate::part::{Part, Refusal};
 use events::event::{Event, Field};
@@ -30,22 +30,16 @@ pub struct EventReader<'a> {
 
 // Reads the first field.
 pub fn open_stream(stream: &[u8]) -> Result<Opened, Part>
-    ensures { MatchResult result (λ o. FirstTable stream.now (mask_bytes o.table.ports o.table.masks) o.behind) (λ part. FirstRefused stream.now part) }
+    ensures { MatchResult result (λ o. FirstTable stream.now (masks_of o.table) o.behind) (λ part. FirstRefused stream.now part) }
 {
     let mut reader = Reader::new(stream);
-    match reader.next()? {
-        Some(field) => match field {
-            Field::Table(masks) => {
-                let table = Reach::new(masks)?;
-                Ok(Opened {
-                    table,
-                    behind: reader.place(),
-                })
-            }
-            Field::Event(_) => unreachable(),
-        },
-        None => unreachable(),
-    }
+    let Some(Field::Table(masks)) = reader.next()? else {
+        unreachable()
+    };
+    Ok(Opened {
+        table: Reach::new(masks)?,
+        behind: reader.place(),
+    })
 }
 
 impl Opened {
@@ -84,34 +78,26 @@ impl<'a> EventReader<'a> {
         ensures answers { EventAnswers (read_at self.old.stream.now self.old.place) self.old.place self.new.place result }
     {
         let place = self.place;
-        let mut reader = match Reader::at(self.stream, place) {
-            Some(reader) => reader,
-            None => {
-                // beyond the end there is nothing, but a stream that is too long is refused at every place
-                if self.stream.len() > LONGEST {
-                    return Err(Refusal {
-                        place,
-                        part: Part::Reader(ReaderFault::StreamTooLong),
-                    });
-                }
-                return Ok(None);
+        let Some(mut reader) = Reader::at(self.stream, place) else {
+            // beyond the end there is nothing, but a stream that is too long is refused at every place
+            if self.stream.len() > LONGEST {
+                return Err(Refusal {
+                    place,
+                    part: Part::Reader(ReaderFault::StreamTooLong),
+                });
             }
+            return Ok(None);
         };
-        let found = match reader.next() {
-            Ok(found) => found,
-            Err(fault) => {
-                let part = Part::from(fault);
-                return Err(Refusal { place, part });
-            }
-        };
+        let found = reader.next().map_err(|fault| Refusal {
+            place,
+            part: Part::Reader(fault),
+        })?;
         match found {
-            Some(field) => match field {
-                Field::Event(event) => {
-                    self.place = reader.place();
-                    Ok(Some(event))
-                }
-                Field::Table(_) => unreachable(),
-            },
+            Some(Field::Event(event)) => {
+                self.place = reader.place();
+                Ok(Some(event))
+            }
+            Some(Field::Table(_)) => unreachable(),
             None => Ok(None),
         }
     }

@@ -1,7 +1,7 @@
 // Reads a whole stream: its table and its events, or the first refusal with its place and the part that it came from.
 ghost use Rattle.events.specs.Streams.{SaysRest, ReadWhole};
+ghost use Rattle.records.specs.Tables.{masks_of};
 ghost use Rattle.streams.specs.Whole.{RestRefused, FirstFault};
-ghost use Rattle.records.specs.Reaching.{mask_bytes};
 ghost use Rattle.std.specs.Prelude.{MatchResult};
 
 use crate::behind::{EventReader, open_stream};
@@ -24,25 +24,20 @@ fn read_events(heap: Global, reader: &mut EventReader) -> Result<Vec<Event>, Str
     let mut events = Vec::new(heap);
     'fields: loop {
         let place = reader.place();
-        match reader.next()? {
-            Some(event) => {
-                if events.push(event).is_err() {
-                    return Err(StreamFault::NoMemory { place });
-                }
-            }
-            None => return Ok(events),
-        }
+        let Some(event) = reader.next()? else {
+            return Ok(events);
+        };
+        events
+            .push(event)
+            .map_err(|_| StreamFault::NoMemory { place })?;
     }
 }
 
 // Reads the stream from its first byte to its last.
 pub fn read_stream(heap: Global, stream: &[u8]) -> Result<Stream, StreamFault>
-    ensures { MatchResult result (λ w. ReadWhole stream.now (mask_bytes w.table.ports w.table.masks) w.events.items) (λ f. FirstFault stream.now f) }
+    ensures { MatchResult result (λ w. ReadWhole stream.now (masks_of w.table) w.events.items) (λ f. FirstFault stream.now f) }
 {
-    let opened = match open_stream(stream) {
-        Ok(opened) => opened,
-        Err(part) => return Err(StreamFault::Refused(Refusal { place: 0, part })),
-    };
+    let opened = open_stream(stream).map_err(|part| Refusal { place: 0, part })?;
     let events = read_events(heap, &mut opened.events(stream))?;
     Ok(Stream {
         table: opened.table(),

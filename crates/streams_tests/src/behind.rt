@@ -8,10 +8,7 @@ use streams::part::{Part, Refusal};
 
 // The part that refuses the first field.
 fn refusal(stream: &[u8]) -> Option<Part> {
-    match open_stream(stream) {
-        Ok(_) => None,
-        Err(part) => Some(part),
-    }
+    open_stream(stream).err()
 }
 
 #[test]
@@ -46,18 +43,14 @@ fn then_events(rt: &impl Abort, mut reader: EventReader) {
 #[test]
 fn events_behind_it(rt: HostRuntime) -> Result<(), Fail> {
     let stream = [16, 0, 3, 6, 5, 3, 6, 0, 1, 2, 5, 0, 2, 2, 0, 99];
-    match open_stream(&stream) {
-        Err(_) => Err(Fail::new("refused")),
-        Ok(opened) => {
-            assert_eq!(rt; opened.table().ports(), 3);
-            then_events(&rt, opened.events(&stream));
-            // of another stream, it is at the same place; beyond the end there is nothing
-            let mut elsewhere = opened.events(&stream[0..10]);
-            assert_eq!(rt; elsewhere.next(), Ok(Some(Event::Release { port: 2 })));
-            assert_eq!(rt; elsewhere.next(), Ok(None));
-            let mut nowhere = opened.events(&stream[0..0]);
-            assert_eq!(rt; nowhere.next(), Ok(None));
-            Ok(())
-        }
-    }
+    let opened = open_stream(&stream)?;
+    assert_eq!(rt; opened.table().ports(), 3);
+    then_events(&rt, opened.events(&stream));
+    // of another stream, it is at the same place; beyond the end there is nothing
+    let mut elsewhere = opened.events(&stream[0..10]);
+    assert_eq!(rt; elsewhere.next(), Ok(Some(Event::Release { port: 2 })));
+    assert_eq!(rt; elsewhere.next(), Ok(None));
+    let mut nowhere = opened.events(&stream[0..0]);
+    assert_eq!(rt; nowhere.next(), Ok(None));
+    Ok(())
 }

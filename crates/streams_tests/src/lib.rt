@@ -1,7 +1,9 @@
-// Examples of whole streams: the table and the events behind it, and where and why a stream is not read.
+// Examples of whole streams: the table and the events behind it, where and why a stream is not read, and the longest writing.
 #![tactic(auto)]
 
 #[cfg(test)]
 mod behind; // event by event, behind the table
 #[cfg(test)]
 mod whole; // the first fault of a whole stream
+#[cfg(test)]
+mod writing; // the longest writing, read back

@@ -6,10 +6,7 @@ use streams::stream::read_stream;
 
 // Where and why the stream is not read.
 fn fault(heap: Global, stream: &[u8]) -> Option<StreamFault> {
-    match read_stream(heap, stream) {
-        Ok(_) => None,
-        Err(fault) => Some(fault),
-    }
+    read_stream(heap, stream).err()
 }
 
 fn refused(place: usize, part: Part) -> Option<StreamFault> {

@@ -42,9 +42,9 @@ returns-in_err-notice-in-Release g c =
 
 pub returns-in_ok-hand_in-in-HandIn : goal.returns-in_ok-hand_in-in-HandIn
 returns-in_ok-hand_in-in-HandIn g c =
-    let x = c.in-HandIn in
+    let x = c.in-HandIn.x in
     let k = c.in_ok-hand_in-in-HandIn in
-    record { ran = ran_taken (handed (hand_in_call x.port x.dispatcher x.reading x.mask x.home x.berth x.action x.vessel) k.field-0) x.is refl k.ensures.kept; same = tt }
+    record { ran = ran_taken (handed (hand_in_call x.port x.dispatcher x.reading x.mask x.home x.berth x.action x.vessel) k.field-0) c.in-HandIn.is refl k.ensures.kept; same = tt }
 
 pub returns-in_ok-notices-in-Decide : goal.returns-in_ok-notices-in-Decide
 returns-in_ok-notices-in-Decide g c =

@@ -1,0 +1,5 @@
+use Rattle.std.proofs.Common.{◌-◌, length}
+use Rattle.radio.proofs.carry_events.Given as goal
+
+abbrev pub decreases-fields : goal.decreases-fields
+decreases-fields l = length l.reader.stream.now - l.reader.place
