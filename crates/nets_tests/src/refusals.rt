@@ -1,9 +1,9 @@
 // Each call's own refusals, where a run reaches them.
-use crate::runs::NOTHING;
 use bag_wire::BagWire;
 use boards::first_come::FirstCome;
 use nets::net::Net;
 use records::fault::NetFault;
+use records::notice::{Decided, HandIn};
 use records::reach::Reach;
 use records::stamp::Pair;
 use std::test::Fail;
@@ -52,58 +52,133 @@ fn a_full_line(rt: HostRuntime) -> Result<(), Fail> {
 #[test]
 fn what_is_handed_in(rt: HostRuntime) -> Result<(), Fail> {
     let mut net = net()?;
-    assert_eq!(rt;
-        net.hand_in(3, 4, 1, 0, 3, 16, 0, 0),
-        Err(NetFault::NoSuchPort)
-    );
-    assert_eq!(rt;
-        net.hand_in(0, 4, 1, 0, 3, 16, 0, 0),
-        Err(NetFault::NoSuchDispatcher)
-    );
-    assert_eq!(rt;
-        net.hand_in(0, 3, 1, 0, 3, 15, 1, 1),
-        Err(NetFault::WrongContent)
-    );
-    assert_eq!(rt;
-        net.hand_in(0, 3, 1, 0, 2, 16, 1, 1),
-        Err(NetFault::WrongContent)
-    );
-    assert_eq!(rt;
-        net.hand_in(0, 3, 1, 0, 2, 15, 0, 1),
-        Err(NetFault::WrongContent)
-    );
-    assert_eq!(rt;
-        net.hand_in(0, 3, 1, 0, 2, 15, 3, 1),
-        Err(NetFault::WrongContent)
-    );
-    assert_eq!(rt;
-        net.hand_in(0, 3, 1, 0, 2, 15, 2, 0),
-        Err(NetFault::WrongContent)
-    );
-    assert_eq!(rt;
-        net.hand_in(0, 3, 1, 0, 2, 15, 2, 1),
-        Err(NetFault::WrongDestinations)
-    );
-    assert_eq!(rt;
-        net.hand_in(0, 3, 1, 15, 2, 15, 2, 1),
-        Err(NetFault::WrongDestinations)
-    );
-    assert_eq!(rt;
-        net.hand_in(1, 3, 1, 4, 2, 15, 2, 1),
-        Err(NetFault::WrongDestinations)
-    );
-    assert_eq!(rt; net.hand_in(0, 3, 1, 7, 2, 15, 2, 1), Ok(1));
-    assert_eq!(rt; net.hand_in(2, 0, 1, 4, 0, 0, 1, 65535), Ok(1));
-    assert_eq!(rt; net.hand_in(0, 3, 1, 1, 2, 15, 2, 1), Ok(2));
+    // everything is wrong; then what is refused before is put right, one number after the other
+    let wrong = HandIn {
+        port: 3,
+        dispatcher: 4,
+        reading: 1,
+        mask: 0,
+        home: 3,
+        berth: 16,
+        action: 0,
+        vessel: 0,
+    };
+    let right = HandIn {
+        port: 0,
+        dispatcher: 3,
+        reading: 1,
+        mask: 7,
+        home: 2,
+        berth: 15,
+        action: 2,
+        vessel: 1,
+    };
+    let cases = [
+        (wrong, Err(NetFault::NoSuchPort)),
+        (HandIn { port: 0, ..wrong }, Err(NetFault::NoSuchDispatcher)),
+        (
+            HandIn {
+                mask: 0,
+                home: 3,
+                action: 1,
+                ..right
+            },
+            Err(NetFault::WrongContent),
+        ),
+        (
+            HandIn {
+                mask: 0,
+                berth: 16,
+                action: 1,
+                ..right
+            },
+            Err(NetFault::WrongContent),
+        ),
+        (
+            HandIn {
+                mask: 0,
+                action: 0,
+                ..right
+            },
+            Err(NetFault::WrongContent),
+        ),
+        (
+            HandIn {
+                mask: 0,
+                action: 3,
+                ..right
+            },
+            Err(NetFault::WrongContent),
+        ),
+        (
+            HandIn {
+                mask: 0,
+                vessel: 0,
+                ..right
+            },
+            Err(NetFault::WrongContent),
+        ),
+        (
+            HandIn { mask: 0, ..right },
+            Err(NetFault::WrongDestinations),
+        ),
+        (
+            HandIn { mask: 15, ..right },
+            Err(NetFault::WrongDestinations),
+        ),
+        (
+            HandIn {
+                port: 1,
+                mask: 4,
+                ..right
+            },
+            Err(NetFault::WrongDestinations),
+        ),
+        (right, Ok(1)),
+        (
+            HandIn {
+                port: 2,
+                dispatcher: 0,
+                mask: 4,
+                home: 0,
+                berth: 0,
+                action: 1,
+                vessel: 65535,
+                ..right
+            },
+            Ok(1),
+        ),
+        (HandIn { mask: 1, ..right }, Ok(2)),
+    ];
+    for (said, answer) in cases {
+        assert_eq!(rt; net.hand_in(said), answer);
+    }
     Ok(())
 }
 
 #[test]
 fn what_is_decided(rt: HostRuntime) -> Result<(), Fail> {
     let mut net = net()?;
-    let mut working = [NOTHING; 17];
-    assert_eq!(rt; net.hand_in(0, 1, 50, 7, 0, 0, 1, 5), Ok(1));
-    assert_eq!(rt; net.hand_in(0, 1, 40, 6, 0, 1, 1, 6), Ok(2));
+    let mut working = [Decided::default(); 17];
+    let first = HandIn {
+        port: 0,
+        dispatcher: 1,
+        reading: 50,
+        mask: 7,
+        home: 0,
+        berth: 0,
+        action: 1,
+        vessel: 5,
+    };
+    let second = HandIn {
+        reading: 40,
+        mask: 6,
+        berth: 1,
+        vessel: 6,
+        ..first
+    };
+    assert_eq!(rt; net.hand_in(first), Ok(1));
+    assert_eq!(rt; net.hand_in(second), Ok(2));
     assert_eq!(rt;
         net.decide(3, 9, [9, 9, 9, 9], &mut []),
         Err(NetFault::NoSuchPort)

@@ -8,30 +8,32 @@ use boards::spot::Spot;
 use nets::net::Net;
 use records::fault::NetFault;
 use records::mask::Mask;
-use records::notice::{Action, Decided, Notice};
+use records::notice::{Decided, HandIn};
 use records::reach::Reach;
-use records::stamp::{Pair, Stamp};
+use records::stamp::Pair;
 use row_wire::RowWire;
 use std::process::Abort;
 use std::test::Fail;
 use wires::wire::Wire;
 
-// What a place of the working list holds before a decide.
-pub const NOTHING: Decided = Decided {
-    notice: Notice {
-        source: 0,
-        dispatcher: 0,
-        count: 0,
-        to: Mask { bits: 0 },
-        home: 0,
-        berth: 0,
-        action: Action::Take,
-        vessel: 0,
-    },
-    stamp: Stamp {
-        pair: Pair { clock: 0, step: 0 },
-        port: 0,
-    },
+// Vessel 7 takes berth 4 of port 0, and both ports must know; dispatcher 0 of port 0 says so at 100.
+const SEVEN: HandIn = HandIn {
+    port: 0,
+    dispatcher: 0,
+    reading: 100,
+    mask: 3,
+    home: 0,
+    berth: 4,
+    action: 1,
+    vessel: 7,
+};
+
+// Vessel 9 takes the same berth, as dispatcher 0 of port 1 says at 90.
+const NINE: HandIn = HandIn {
+    port: 1,
+    reading: 90,
+    vessel: 9,
+    ..SEVEN
 };
 
 // Clock, step and port of what is released, its vessel, and the outcome; or the refusal.
@@ -63,9 +65,9 @@ fn one_order<W: Wire + Drop, B: Board + Drop>(
         return Err(Fail::new("no table"));
     };
     let mut net = Net::open(reach, wire, board);
-    let mut working = [NOTHING; 16];
-    assert_eq!(rt; net.hand_in(0, 0, 100, 3, 0, 4, 1, 7), Ok(1));
-    assert_eq!(rt; net.hand_in(1, 0, 90, 3, 0, 4, 1, 9), Ok(1));
+    let mut working = [Decided::default(); 16];
+    assert_eq!(rt; net.hand_in(SEVEN), Ok(1));
+    assert_eq!(rt; net.hand_in(NINE), Ok(1));
     assert_eq!(rt; net.decide(0, 0, [1, 0, 0, 0], &mut working), Ok((1, 1)));
     assert_eq!(rt; net.bring(0, 1), Ok(()));
     assert_eq!(rt; net.fetch(1, 0), Ok(()));
@@ -130,7 +132,7 @@ fn a_clearance_raises_the_floor(rt: HostRuntime) -> Result<(), Fail> {
         return Err(Fail::new("no table"));
     };
     let mut net = Net::open(reach, RowWire::new(), FirstCome::new());
-    let mut working = [NOTHING; 16];
+    let mut working = [Decided::default(); 16];
     assert_eq!(rt;
         net.clear(0, 100),
         Ok(Pair {
@@ -139,13 +141,25 @@ fn a_clearance_raises_the_floor(rt: HostRuntime) -> Result<(), Fail> {
         })
     );
     assert_eq!(rt; net.fetch(1, 0), Ok(()));
-    assert_eq!(rt; net.hand_in(1, 0, 95, 3, 0, 4, 1, 9), Ok(1));
+    assert_eq!(rt;
+        net.hand_in(HandIn {
+            reading: 95,
+            ..NINE
+        }),
+        Ok(1)
+    );
     assert_eq!(rt; net.decide(1, 0, [1, 0, 0, 0], &mut working), Ok((1, 1)));
     assert_eq!(rt;
         released(&mut net, 1),
         Ok((95, 0, 1, 9, Outcome::Alongside))
     );
-    assert_eq!(rt; net.hand_in(0, 0, 90, 3, 0, 4, 1, 7), Ok(1));
+    assert_eq!(rt;
+        net.hand_in(HandIn {
+            reading: 90,
+            ..SEVEN
+        }),
+        Ok(1)
+    );
     assert_eq!(rt; net.decide(0, 0, [1, 0, 0, 0], &mut working), Ok((1, 1)));
     assert_eq!(rt; net.fetch(0, 1), Ok(()));
     // the last word of port 1 is not held by the clearance that it brought along

@@ -32,10 +32,6 @@ keeps_after depth rule v w (Bring from to) e k h l = (k.does, k.lives h l)
 keeps_after depth rule v w (Fetch port source) e k h l = k h l
 keeps_after depth rule v w (Release port) e k h l = (k.does, k.lives h l)
 
--- what `?` hands on is the fault that it met
-pub handed_on : {T E : Type 0} {f : E} (r : Result T E) → IsErrAnd r (λ y. y ≡ f) → r ≡ Err f
-handed_on r e = let p = err_from_is_err_and r e in p.1 ∙ ap Err p.2
-
 module _ {W B : Type 0} where
   pub all_same : {old new : Net W B} → new ≡ old → SameNet old new
   all_same e = record { reach = ap (λ n. n.reach) e; ports = ap (λ n. n.ports) e; wire = ap (λ n. n.wire) e; board = ap (λ n. n.board) e }

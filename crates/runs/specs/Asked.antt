@@ -15,7 +15,7 @@ use Rattle.nets.specs.Promises.{Kept, KeptAfter}
 
 -- the call that an event is; a decide is given a working list of sixteen places
 abbrev pub call_by : Event → Call
-call_by (HandIn x) = hand_in (hand_in_call x.port x.dispatcher x.reading x.mask x.home x.berth x.action x.vessel)
+call_by (HandIn x) = hand_in (hand_in_call x)
 call_by (Decide port number cuts) = decide (record { port = port; number = number; cuts = cuts; places = 16 })
 call_by (Clear port reading) = clear port reading
 call_by (Bring from to) = bring from to

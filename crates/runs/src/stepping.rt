@@ -17,16 +17,7 @@ pub fn run_event<W: Wire, B: Board>(net: &mut Net<W, B>, event: Event) -> Result
     ensures same { OnErr result (SameNet net.old net.new) }
 {
     Ok(match event {
-        Event::HandIn(x) => Answer::Count(net.hand_in(
-            x.port,
-            x.dispatcher,
-            x.reading,
-            x.mask,
-            x.home,
-            x.berth,
-            x.action,
-            x.vessel,
-        )?),
+        Event::HandIn(said) => Answer::Count(net.hand_in(said)?),
         Event::Decide { port, number, cuts } => {
             let mut working = [Decided::default(); 16];
             let (notices, copies) = net.decide(port, number, cuts, &mut working)?;

@@ -1,7 +1,8 @@
 use Rattle.std.proofs.Common.{refl}
 use Rattle.model.specs.Histories.{handed, decided, cleared, brought, fetched, released}
 use Rattle.nets.specs.Handing.{hand_in_call}
-use Rattle.runs.proofs.Running.{ran_taken, ran_refused, handed_on, all_same, same_at}
+use Rattle.nets.proofs.Keeping.{handed_on}
+use Rattle.runs.proofs.Running.{ran_taken, ran_refused, all_same, same_at}
 use Rattle.runs.proofs.stepping.run_event.Goals as goal
 
 pub returns-in_err-hand_in-in-HandIn : goal.returns-in_err-hand_in-in-HandIn
@@ -42,9 +43,9 @@ returns-in_err-notice-in-Release g c =
 
 pub returns-in_ok-hand_in-in-HandIn : goal.returns-in_ok-hand_in-in-HandIn
 returns-in_ok-hand_in-in-HandIn g c =
-    let x = c.in-HandIn.x in
+    let x = c.in-HandIn.said in
     let k = c.in_ok-hand_in-in-HandIn in
-    record { ran = ran_taken (handed (hand_in_call x.port x.dispatcher x.reading x.mask x.home x.berth x.action x.vessel) k.field-0) c.in-HandIn.is refl k.ensures.kept; same = tt }
+    record { ran = ran_taken (handed (hand_in_call x) k.field-0) c.in-HandIn.is refl k.ensures.kept; same = tt }
 
 pub returns-in_ok-notices-in-Decide : goal.returns-in_ok-notices-in-Decide
 returns-in_ok-notices-in-Decide g c =

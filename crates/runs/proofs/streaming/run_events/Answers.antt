@@ -2,7 +2,7 @@ use Rattle.std.proofs.Common.{ℕ, Bool, List, Ok, Err, vec_items, sym, refl, ap
 use Rattle.nets.specs.Views.{view}
 use Rattle.runs.specs.Runs.{Ends, TurnAnswers, Turned}
 use Rattle.runs.proofs.Going.{went_none, went_on, table_on, ended}
-use Rattle.runs.proofs.Running.{handed_on}
+use Rattle.nets.proofs.Keeping.{handed_on}
 use Rattle.runs.proofs.streaming.run_events.Given as given
 use Rattle.runs.proofs.streaming.run_events.Goals as goal
 
