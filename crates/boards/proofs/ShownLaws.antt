@@ -1,12 +1,11 @@
--- What users of a board need to know of its lists. Assumes nothing.
-use Rattle.std.specs.Prelude.{◌≡◌, ℕ, ◌<◌, ◌≤◌, true, false, ◌&&◌, ◌==◌, nat_le, nat_lt, refl}
-use Rattle.std.proofs.Common.{sym, ap, ◌∙◌, subst}
+-- When the numbers of a list or a notice are in range, and which list a notice is about. Assumes nothing.
+use Rattle.std.specs.Prelude.{◌≡◌, ℕ, ◌<◌, ◌≤◌, true, false, ◌&&◌, ◌==◌, nat_le, nat_lt}
+use Rattle.std.proofs.Common.{sym, subst}
 use Rattle.std.proofs.lemmas.Bool.{both_ways, cond-true, and_parts, and_from, ltb-true, lt-ltb, leb-true, le-leb, eqb-true, eq-eqb}
 use Rattle.records.specs.declared.notice.Action.{Action}
-use Rattle.boards.specs.declared.outcome.Outcome.{Outcome}
 use Rattle.boards.specs.declared.outcome.Outcome.TheVariants.{Clash}
 use Rattle.boards.specs.Rules.{Vessels, Rule}
-use Rattle.boards.specs.Shown.{Lists, is_berth, in_range, turned, Applied}
+use Rattle.boards.specs.Shown.{is_berth, in_range, turned}
 
 pub berth_bounds : (w h b : ℕ) → is_berth w h b ≡ true → (w < 8) × (h < 8) × (b ≤ 15)
 berth_bounds w h b e =
@@ -38,18 +37,3 @@ module _ (w h b p q k : ℕ) where
 
   pub not_place : (p == w && (h == q && b == k)) ≡ false → (p ≡ w) × (q ≡ h) × (k ≡ b) → ⊥
   not_place there e = both_ways (p == w && (h == q && b == k)) there (is_place e)
-
--- after a notice in range, its list is the rule's
-pub applied_list : {rule : Rule} {old new : Lists} {w h b : ℕ} {a : Action} {v : ℕ} {o : Outcome} → Applied rule old new w h b a v o → in_range w h b v ≡ true → new w h b ≡ (rule (old w h b) a v).list
-applied_list {rule} {old} {new} {w} {h} {b} {a} {v} {o} d ok =
-    d.lists w h b ∙ cond-true (w == w && (h == h && b == b)) (turned rule w h b a v (old w h b)).list (old w h b) (is_place w h b w h b (refl, refl, refl)) ∙ ap (λ t. t.list) (turned_in_range rule w h b a v (old w h b) ok)
-
-pub applied_outcome : {rule : Rule} {old new : Lists} {w h b : ℕ} {a : Action} {v : ℕ} {o : Outcome} → Applied rule old new w h b a v o → in_range w h b v ≡ true → o ≡ (rule (old w h b) a v).outcome
-applied_outcome {rule} {old} {new} {w} {h} {b} {a} {v} {o} d ok = d.outcome ∙ ap (λ t. t.outcome) (turned_in_range rule w h b a v (old w h b) ok)
-
--- a vessel in range is not 0
-pub vessel_in_range : (w h b v : ℕ) → in_range w h b v ≡ true → 0 < v
-vessel_in_range w h b v ok =
-    let x = and_parts (nat_lt w 8) (nat_lt h 8 && (nat_le b 15 && nat_lt 0 v)) ok in
-    let y = and_parts (nat_lt h 8) (nat_le b 15 && nat_lt 0 v) x.1 in
-    ltb-true 0 v (and_parts (nat_le b 15) (nat_lt 0 v) y.1).1

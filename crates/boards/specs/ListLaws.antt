@@ -35,12 +35,6 @@ once_without v (x ∷ xs) h =
     let apart = not_from_false (listed x (without v xs)) (unlisted_without v x xs (not-true (listed x xs) p.0)) in
     by_first (λ l. once l ≡ true) v x xs (λ _. rest) (λ _. and_from (not (listed x (without v xs))) (once (without v xs)) apart rest)
 
-pub without_unlisted : (v : ℕ) (xs : Vessels) → listed v xs ≡ false → without v xs ≡ xs
-without_unlisted v [] h = refl
-without_unlisted v (x ∷ xs) h =
-    let p = or_parts (v == x) (listed v xs) h in
-    without_other v x xs (eqb-false v x p.0) ∙ ap (λ l. x ∷ l) (without_unlisted v xs p.1)
-
 pub shorter : (v : ℕ) (xs : Vessels) → length (without v xs) ≤ length xs
 shorter v [] = le_refl 0
 shorter v (x ∷ xs) = by_first (λ l. length l ≤ length (x ∷ xs)) v x xs (λ _. le_trans (shorter v xs) (le-suc (length xs))) (λ _. suc-le-suc (shorter v xs))
