@@ -1,3 +1,4 @@
 pub mod Rings
 pub mod Rows
 pub mod RowLines
+pub mod Fits

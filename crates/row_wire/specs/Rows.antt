@@ -1,8 +1,7 @@
 -- What a row of rings, each the list of its records, means as the lines of a wire. Assumes nothing.
-use Rattle.std.specs.Prelude.{◌≡◌, ℕ, ◌+◌, ◌*◌, ◌≤◌, true, false, cond, List, [], length, Some, None, Option, slice_index_or, refl}
-use Rattle.std.proofs.lemmas.Bool.{leb-true}
+use Rattle.std.specs.Prelude.{◌≡◌, ℕ, ◌+◌, ◌*◌, ◌≤◌, cond, List, [], length, Some, None, Option, slice_index_or}
 use Rattle.records.specs.declared.notice.Record.{Record}
-use Rattle.wires.specs.Lines.{Line, Lines, is_line, depth_of}
+use Rattle.wires.specs.Lines.{Line, Lines, is_line}
 
 -- where the ring of the line from p to q lies, if there is such a line
 abbrev pub place_of : ℕ → ℕ → Option ℕ
@@ -26,10 +25,3 @@ AllArrived lines = (p q : ℕ) → (lines p q).arrived ≡ length (lines p q).he
 -- no ring holds more than sixteen
 abbrev pub Sound : List (List Record) → Type 0
 Sound rings = (k : ℕ) → length (slice_index_or rings k []) ≤ 16
-
--- so no line does, and what is no line holds nothing
-pub line_fits : (rings : List (List Record)) → Sound rings → (p q : ℕ) → length (held_at rings p q) ≤ depth_of 16 p q
-line_fits rings s p q = elim (is_line p q) as (λ b. length (cond b (slice_index_or rings (p * 8 + q) []) []) ≤ cond b 16 0) [
-  | true ↦ s (p * 8 + q)
-  | false ↦ leb-true 0 0 refl
-]

@@ -1,6 +1,7 @@
 // A wire of rings, one for each line.
 ghost use Rattle.std.specs.Prelude.{◌≡◌, ℕ, refl};
-ghost use Rattle.row_wire.specs.Rows.{place_of, AllArrived, Sound, line_fits};
+ghost use Rattle.row_wire.specs.Rows.{place_of, AllArrived, Sound};
+ghost use Rattle.row_wire.specs.Fits.{line_fits};
 ghost use Rattle.wires.specs.Lines.{PutAnswers, TakeAnswers, Brought, Emptied};
 ghost use Rattle.std.proofs.lemmas.Bool.{leb-true};
 ghost use Rattle.std.proofs.Math.Nat.{le_refl};
