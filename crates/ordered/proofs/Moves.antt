@@ -1,8 +1,8 @@
 -- What the moves of a part leave of the whole memory. Assumes nothing.
-use Rattle.std.proofs.Common.{◌≡◌, ℕ, suc, ◌+◌, ◌-◌, ◌<◌, ◌≤◌, List, ◌∷◌, ◌++◌, length, get_or, take, drop, set, sym, ap, ◌∙◌, arith}
+use Rattle.std.proofs.Common.{◌≡◌, ℕ, suc, ◌+◌, ◌-◌, ◌<◌, ◌≤◌, List, ◌∷◌, ◌++◌, length, take, drop, set, sym, ap, ◌∙◌, arith}
 use borrow.Rule.Slice.PartMut.{put_mid}
 use Rattle.std.specs.List.{insert, between}
-use Rattle.std.proofs.lemmas.List.{length-take, length-drop, length-set, take_at, drop_at, take-take, drop_more, drop_all, set-append_left, set-append_right, append_assoc, get_or-take}
+use Rattle.std.proofs.lemmas.List.{length-take, length-drop, length-set, take-take, drop_more, drop_all, set-append_left, set-append_right}
 use Rattle.std.proofs.lemmas.List.Edits.{length-between}
 use Rattle.std.proofs.lemmas.Slice.{between_is, take-put_mid, drop-put_mid}
 

@@ -1,6 +1,5 @@
 -- How an event's promise follows from that of the call that it is. Assumes nothing.
-use Rattle.std.proofs.Common.{◌≡◌, ℕ, IsErrAnd, IfErr, Err, Result, sym, refl, ap, ◌∙◌, subst}
-use Rattle.std.proofs.lemmas.Result.{err_from_is_err_and}
+use Rattle.std.proofs.Common.{◌≡◌, ℕ, IfErr, Err, Result, sym, refl, ap, subst}
 use Rattle.records.specs.declared.fault.NetFault.{NetFault}
 use Rattle.boards.specs.Rules.{Rule}
 use Rattle.events.specs.declared.event.Event.{Event}
