@@ -1,6 +1,7 @@
 -- When a decide is refused, and when not. Assumes nothing.
 use Rattle.std.proofs.Common.{◌≡◌, ℕ, ◌+◌, ◌<◌, ◌≤◌, Bool, true, false, not, ◌||◌, eqb, ltb, List, length, get_or, Some, None, Ok, Err, Option, Result, sym, refl, ap, ◌∙◌, subst, arith}
 use Rattle.std.proofs.lemmas.Bool.{lt-ltb, le-ltb}
+use Rattle.std.specs.Result.{IsOk}
 use Rattle.records.specs.declared.fault.NetFault.{NetFault}
 use Rattle.records.specs.declared.fault.NetFault.TheVariants.{NoSuchPort, WorkingListShort, WrongNumber, WrongCut, StepUsedUp, OwnWaitingFull, LineFull}
 use Rattle.batches.specs.declared.batch.Batch.{Batch}
@@ -100,6 +101,10 @@ module _ (ps : List Port) (x : Decide) (n : Numbered ps) (lt : x.port < 8) (d : 
   pub decided_so : (new : Port) (r : Result Batch NetFault) → deciding_fault (ports_of ps x.port) x ≡ None → Decides p new asked r → Became p new (after_decide x (port_view p))
   decided_so new (Ok b) e a = subst (Became p new) after_is a.1
   decided_so new (Err f) e a = none_some (sym e ∙ fault_is ∙ a.0)
+
+  pub decided_ok : (new : Port) (r : Result Batch NetFault) → deciding_fault (ports_of ps x.port) x ≡ None → Decides p new asked r → IsOk r
+  decided_ok new (Ok b) e a = refl
+  decided_ok new (Err f) e a = none_some (sym e ∙ fault_is ∙ a.0)
 
 -- lines with room get the copies
 pub sent_so : {W : Type 0} (line : W → Lines) (depth : ℕ) (old new : W) (port : ℕ) (extra : Extra) (r : Result (Unit {0}) NetFault) → room depth (line old) port extra ≡ true → AllOrNone line depth old new port extra r → Grown (line old) (line new) extra

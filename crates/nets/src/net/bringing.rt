@@ -1,9 +1,8 @@
 // Bringing on a line.
 ghost use Rattle.model.specs.Calls.{bring};
-ghost use Rattle.model.specs.Histories.{brought, refused};
-ghost use Rattle.nets.specs.Promises.{Kept};
-ghost use Rattle.nets.specs.Views.{view};
-ghost use Rattle.std.specs.Prelude.{◌≡◌, MatchResult, OnErr};
+ghost use Rattle.model.specs.Histories.{brought};
+ghost use Rattle.nets.specs.Promises.{Promised};
+ghost use Rattle.std.specs.Prelude.{◌≡◌, OnErr};
 
 use crate::net::Net;
 use boards::board::Board;
@@ -14,7 +13,7 @@ use wires::wire::Wire;
 impl<W: Wire, B: Board> Net<W, B> {
     // Brings on the line from one port to another.
     pub fn bring(&mut self, from: u8, to: u8) -> Result<(), NetFault>
-        ensures kept { MatchResult result (λ _. Kept W.depth B.rule (view W.line B.shown self.old) (brought from to) (view W.line B.shown self.new)) (λ f. Kept W.depth B.rule (view W.line B.shown self.old) (refused (bring from to) f) (view W.line B.shown self.new)) }
+        ensures kept { Promised W.Wire B.Board self.old self.new result (λ _. brought from to) (bring from to) }
         ensures same { OnErr result (self.new ≡ self.old) }
     {
         if self.lacks(from) | self.lacks(to) {

@@ -1,9 +1,9 @@
 // Clearing.
 ghost use Rattle.model.specs.Calls.{clear};
-ghost use Rattle.model.specs.Histories.{cleared, refused};
-ghost use Rattle.nets.specs.Promises.{Kept};
-ghost use Rattle.nets.specs.Views.{view, SameNet};
-ghost use Rattle.std.specs.Prelude.{MatchResult, OnErr};
+ghost use Rattle.model.specs.Histories.{cleared};
+ghost use Rattle.nets.specs.Promises.{Promised};
+ghost use Rattle.nets.specs.Views.{SameNet};
+ghost use Rattle.std.specs.Prelude.{OnErr};
 
 use crate::net::Net;
 use boards::board::Board;
@@ -15,7 +15,7 @@ use wires::wire::Wire;
 impl<W: Wire, B: Board> Net<W, B> {
     // The port stamps an empty notice, puts it on the line to every port that it can send to, and answers the pair.
     pub fn clear(&mut self, port: u8, reading: u32) -> Result<Pair, NetFault>
-        ensures kept { MatchResult result (λ p. Kept W.depth B.rule (view W.line B.shown self.old) (cleared port reading p) (view W.line B.shown self.new)) (λ f. Kept W.depth B.rule (view W.line B.shown self.old) (refused (clear port reading) f) (view W.line B.shown self.new)) }
+        ensures kept { Promised W.Wire B.Board self.old self.new result (cleared port reading) (clear port reading) }
         ensures same { OnErr result (SameNet self.old self.new) }
     {
         if self.lacks(port) {

@@ -3,8 +3,7 @@ ghost use Rattle.std.specs.Prelude.{◌≡◌, ◌≤◌, List, ◌++◌, length
 ghost use Rattle.model.specs.Calls.{decide};
 ghost use Rattle.model.specs.Histories.{decided, refused};
 ghost use Rattle.nets.specs.Deciding.{deciding_call};
-ghost use Rattle.nets.specs.Promises.{Kept};
-ghost use Rattle.nets.specs.Views.{view};
+ghost use Rattle.nets.specs.Promises.{KeptOn};
 ghost use Rattle.records.specs.declared.notice.Decided.{Decided};
 
 use crate::net::Net;
@@ -34,7 +33,7 @@ impl<W: Wire, B: Board> Net<W, B> {
         cuts: [u16; 4],
         working: &mut [Decided],
     ) -> Result<(usize, usize), NetFault>
-        ensures kept { MatchResult result (λ a. (ds : List Decided) × Kept W.depth B.rule (view W.line B.shown self.old) (decided (deciding_call port number cuts working.old) ds a.0 a.1) (view W.line B.shown self.new) × (working.new ≡ ds ++ drop (length ds) working.old)) (λ f. Kept W.depth B.rule (view W.line B.shown self.old) (refused (decide (deciding_call port number cuts working.old)) f) (view W.line B.shown self.new)) }
+        ensures kept { MatchResult result (λ a. (ds : List Decided) × KeptOn W.Wire B.Board self.old (decided (deciding_call port number cuts working.old) ds a.0 a.1) self.new × (working.new ≡ ds ++ drop (length ds) working.old)) (λ f. KeptOn W.Wire B.Board self.old (refused (decide (deciding_call port number cuts working.old)) f) self.new) }
         ensures same { OnErr result ((self.new ≡ self.old) × (working.new ≡ working.old)) }
     {
         if self.lacks(port) {
@@ -50,8 +49,8 @@ impl<W: Wire, B: Board> Net<W, B> {
             return Err(NetFault::LineFull);
         }
         // nothing is refused from here on: the lines have room, and the port planned it
-        let _ = send_batch(&mut self.wire, port, notices);
-        let _ = self.ports[at].decide(number, &cuts);
+        send_batch(&mut self.wire, port, notices).unwrap();
+        self.ports[at].decide(number, &cuts).unwrap();
         copy_into(working, notices);
         Ok((notices.len(), copies(notices, port)))
     }

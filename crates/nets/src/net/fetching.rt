@@ -1,9 +1,8 @@
 // Fetching a record.
 ghost use Rattle.model.specs.Calls.{fetch};
-ghost use Rattle.model.specs.Histories.{fetched, refused};
-ghost use Rattle.nets.specs.Promises.{KeptAfter};
-ghost use Rattle.nets.specs.Views.{view};
-ghost use Rattle.std.specs.Prelude.{◌≡◌, MatchResult, OnErr};
+ghost use Rattle.model.specs.Histories.{fetched};
+ghost use Rattle.nets.specs.Promises.{PromisedAfter};
+ghost use Rattle.std.specs.Prelude.{◌≡◌, OnErr};
 
 use crate::net::Net;
 use boards::board::Board;
@@ -14,7 +13,7 @@ use wires::wire::Wire;
 impl<W: Wire, B: Board> Net<W, B> {
     // The port takes the oldest arrived record of the line from the source.
     pub fn fetch(&mut self, port: u8, source: u8) -> Result<(), NetFault>
-        ensures kept { MatchResult result (λ _. KeptAfter W.depth B.rule (view W.line B.shown self.old) (fetched port source) (view W.line B.shown self.new)) (λ f. KeptAfter W.depth B.rule (view W.line B.shown self.old) (refused (fetch port source) f) (view W.line B.shown self.new)) }
+        ensures kept { PromisedAfter W.Wire B.Board self.old self.new result (λ _. fetched port source) (fetch port source) }
         ensures same { OnErr result (self.new ≡ self.old) }
     {
         if self.lacks(port) | self.lacks(source) {

@@ -1,10 +1,10 @@
 // Handing in.
 ghost use Rattle.model.specs.Calls.{hand_in};
-ghost use Rattle.model.specs.Histories.{handed, refused};
+ghost use Rattle.model.specs.Histories.{handed};
 ghost use Rattle.model.specs.Refusals.{in_reach};
 ghost use Rattle.nets.specs.Handing.{addressed, content_of, hand_in_call, wrong_content};
-ghost use Rattle.nets.specs.Promises.{Kept};
-ghost use Rattle.nets.specs.Views.{table_of, view, SameNet};
+ghost use Rattle.nets.specs.Promises.{Promised};
+ghost use Rattle.nets.specs.Views.{table_of, SameNet};
 ghost use Rattle.records.specs.declared.fault.NetFault.TheVariants.{WrongContent};
 ghost use Rattle.std.specs.Prelude.{◌≡◌, true, false, MatchResult, OnErr, nat_lt};
 
@@ -58,7 +58,7 @@ impl<W, B> Net<W, B> {
 impl<W: Wire, B: Board> Net<W, B> {
     // A dispatcher of the port hands a notice in; the answer is its count.
     pub fn hand_in(&mut self, said: HandIn) -> Result<u16, NetFault>
-        ensures kept { MatchResult result (λ count. Kept W.depth B.rule (view W.line B.shown self.old) (handed (hand_in_call said) count) (view W.line B.shown self.new)) (λ f. Kept W.depth B.rule (view W.line B.shown self.old) (refused (hand_in (hand_in_call said)) f) (view W.line B.shown self.new)) }
+        ensures kept { Promised W.Wire B.Board self.old self.new result (handed (hand_in_call said)) (hand_in (hand_in_call said)) }
         ensures same { OnErr result (SameNet self.old self.new) }
     {
         if self.lacks(said.port) {

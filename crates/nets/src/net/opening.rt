@@ -1,6 +1,7 @@
 // Opening a net.
 ghost use Rattle.model.specs.Histories.{Lived};
-ghost use Rattle.nets.specs.Views.{table_of, view};
+ghost use Rattle.nets.specs.Promises.{seen};
+ghost use Rattle.nets.specs.Views.{table_of};
 ghost use Rattle.std.specs.Prelude.{◌≡◌, []};
 
 use crate::net::Net;
@@ -13,7 +14,7 @@ impl<W: Wire, B: Board> Net<W, B> {
     // A net on this table, over the wire and the board, which it empties and owns from then on.
     pub fn open(reach: Reach, mut wire: W, mut board: B) -> Net<W, B>
         ensures table { result.reach ≡ reach }
-        ensures lives { Lived W.depth B.rule [] (view W.line B.shown result) }
+        ensures lives { Lived W.depth B.rule [] (seen W.Wire B.Board result) }
     {
         wire.empty();
         board.empty();

@@ -1,9 +1,8 @@
 // Releasing a notice.
 ghost use Rattle.model.specs.Calls.{release};
-ghost use Rattle.model.specs.Histories.{released, refused};
-ghost use Rattle.nets.specs.Promises.{Kept};
-ghost use Rattle.nets.specs.Views.{view};
-ghost use Rattle.std.specs.Prelude.{◌≡◌, MatchResult, OnErr};
+ghost use Rattle.model.specs.Histories.{released};
+ghost use Rattle.nets.specs.Promises.{Promised};
+ghost use Rattle.std.specs.Prelude.{◌≡◌, OnErr};
 
 use crate::net::Net;
 use boards::board::Board;
@@ -17,7 +16,7 @@ impl<W: Wire, B: Board> Net<W, B> {
     // The lowest waiting notice of the port goes into its book, if nobody holds it; the answer is the notice, and what came
     // of it on the port's board.
     pub fn release(&mut self, port: u8) -> Result<(Decided, Outcome), NetFault>
-        ensures kept { MatchResult result (λ a. Kept W.depth B.rule (view W.line B.shown self.old) (released port a.0 a.1) (view W.line B.shown self.new)) (λ f. Kept W.depth B.rule (view W.line B.shown self.old) (refused (release port) f) (view W.line B.shown self.new)) }
+        ensures kept { Promised W.Wire B.Board self.old self.new result (λ a. released port a.0 a.1) (release port) }
         ensures same { OnErr result (self.new ≡ self.old) }
     {
         if self.lacks(port) {
@@ -32,7 +31,7 @@ impl<W: Wire, B: Board> Net<W, B> {
         if holders.bits > 0 {
             return Err(NetFault::Held(holders));
         }
-        let _ = self.ports[at].release();
+        self.ports[at].release();
         let notice = lowest.notice;
         let at = Spot {
             watching: port,

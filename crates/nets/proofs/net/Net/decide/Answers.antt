@@ -8,7 +8,7 @@ use Rattle.model.specs.Steps.{after_decide}
 use Rattle.ports.specs.Ports.{deciding_fault}
 use Rattle.nets.specs.Deciding.{deciding_call}
 use Rattle.nets.specs.Views.{ports_of, view}
-use Rattle.nets.proofs.Deciding.{too_short, port_refuses, no_room, can_decide, fault_is, decision_is, decided_so, sent_so}
+use Rattle.nets.proofs.Deciding.{too_short, port_refuses, no_room, can_decide, fault_is, decision_is, decided_so, decided_ok, sent_so}
 use Rattle.nets.proofs.Keeping.{handed_on, kept, kept_refused, stops, inside_table}
 use Rattle.nets.proofs.Ports.{only_port, numbered_still}
 use Rattle.nets.proofs.net.Net.decide.Goals as goal
@@ -53,6 +53,15 @@ returns-then-not-has_room g c =
     let ds : decision (ports_of n.ports p) x ≡ c.list-notices.result.now = decision_is n.ports x n.own lt d ∙ sym (c.list-notices.ensures ∙ plan.notices) in
     let full : room depth line p (copies_on p (decision (ports_of n.ports p) x)) ≡ false = ap (λ xs. room depth line p (copies_on p xs)) ds ∙ sym c.has_room.ensures ∙ c.if-not-has_room.true in
     record { kept = kept_refused v (decide x) LineFull (no_room depth v x there c.if-working-lt16.false planned full); same = (refl, refl) }
+
+pub unwrap-requires-2 : goal.unwrap-requires-2
+unwrap-requires-2 g c =
+    let n = c.args.self.now in
+    let p = c.args.port in
+    let x = deciding_call p c.args.number c.args.cuts c.args.working.now in
+    let lt = inside_table n.reach p (sym c.lacks.ensures ∙ c.if-lacks.false) in
+    let planned : deciding_fault (ports_of n.ports p) x ≡ None = fault_is n.ports x n.own lt c.index-self-at.result ∙ c.in_ok-batch.ensures.accepted in
+    decided_ok n.ports x n.own lt c.index-self-at-2.result c.decide.new.self c.decide.result planned c.decide.ensures
 
 pub invariant_of-self-2 : goal.invariant_of-self-2
 invariant_of-self-2 g c =
