@@ -20,7 +20,7 @@ pub enum Line {
     Refused(Refusal),
 }
 
-// A line's text as far as its letter.
+// A line's text as far as its letter, which is a byte of the text.
 fn head(place: usize, letter: u8) -> Text
     ensures text { text_of result ≡ head_text place letter }
     ensures short { length (text_of result) ≤ 22 }

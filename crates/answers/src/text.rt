@@ -1,4 +1,5 @@
-// A text that is put together piece by piece, before it is known whether the memory has room for it.
+// A text that is put together piece by piece, before it is known whether the memory has room for it. It is no `Display`, since
+// what `write!` promises tells nothing of a failure, and a line that fails must leave the memory as it was.
 use arrayvec::ArrayVec;
 
 mod adding; // bytes and numbers, added behind it

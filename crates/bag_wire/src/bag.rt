@@ -32,7 +32,7 @@ impl BagWire {
     }
 }
 
-// How many records the line can hold.
+// How many records the line can hold: none where there is no line.
 fn depth(ends: Ends) -> usize
     ensures { result ≡ depth_of 8 ends.from ends.to }
 {

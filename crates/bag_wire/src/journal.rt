@@ -23,6 +23,7 @@ pub fn first(entries: &[Entry], ends: Ends) -> Option<usize>
 pub fn mark(entries: &mut [Entry], ends: Ends)
     ensures { entries.new ≡ map (marked ends.from ends.to) entries.old }
 {
+    // a `for`, since each turn changes an entry
     for entry in entries.iter_mut() {
         if entry.is_on(ends) {
             entry.arrived = true;

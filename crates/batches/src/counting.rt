@@ -12,7 +12,8 @@ pub fn count_for(notices: &[Decided], port: u8) -> usize
     notices.iter().filter(|d| d.notice.to.names(port)).count()
 }
 
-// How many of the notices were stamped by the source.
+// How many of the notices were stamped by the source. It shares one line with the count above, too little for a function of
+// both.
 pub fn count_from(notices: &[Decided], source: u8) -> usize
     ensures value { result ≡ count_from source notices.now }
     ensures few { result ≤ length notices.now }

@@ -24,7 +24,8 @@ impl Spot {
         }
     }
 
-    // Where the list lies in an array of all lists, if there is such a list.
+    // Where the list lies in an array of all lists, if there is such a list. The array is flat, since arrays in arrays would ask
+    // for the same test.
     pub(crate) fn index(self) -> Option<usize>
         ensures { result ≡ place_of self.watching self.home self.berth }
     {

@@ -30,7 +30,7 @@ pub enum Event {
 }
 
 impl Event {
-    // The letter by which the event is shown.
+    // The letter by which the event is shown: a letter each, which no number of the case gives.
     pub fn letter(self) -> char
         ensures { result ≡ letter_of self }
     {

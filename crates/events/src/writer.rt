@@ -81,6 +81,7 @@ fn encode(event: Event) -> ArrayVec<u8, FIELD>
 fn encode_table(table: &Reach) -> ArrayVec<u8, FIELD>
     ensures { result.items ≡ table_bytes (masks_of table.now) }
 {
+    // a `for`, since `extend` with the same masks did not prove
     let mut masks = ArrayVec::<u8, 8>::new();
     for port in 0..table.ports() {
         masks.push(table.mask(port).bits);
@@ -103,6 +104,7 @@ fn put(field: &[u8], out: &mut [u8], at: usize) -> usize
 fn stream_len(table: &Reach, events: &[Event]) -> Option<usize>
     ensures { MatchOption result (longest < length (stream_of (masks_of table.now) events.now)) (λ n. (n ≡ length (stream_of (masks_of table.now) events.now)) × (n ≤ longest)) }
 {
+    // a `for`, since it ends as soon as the stream is too long, which keeps the sum within bounds
     let mut len = encode_table(table).len();
     for event in events {
         len += encode(*event).len();

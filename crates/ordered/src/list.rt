@@ -1,4 +1,5 @@
-// The ordered list over memory that the caller owns: the first `len` places hold the entries, and the rest is spare.
+// The ordered list over memory that the caller owns: the first `len` places hold the entries, and the rest is spare. The
+// length comes beside the memory, since both are the owner's; `Sorted` keeps the two together.
 ghost use Rattle.std.specs.Prelude.{◌≡◌, ℕ, ◌+◌, ◌<◌, ◌≤◌, ◌∷◌, length, take};
 ghost use Rattle.ordered.specs.Lists.{Insertion, Put, Taken, Taking};
 ghost use Rattle.ordered.specs.Orders.{Place};

@@ -76,7 +76,8 @@ impl<T: Entry, const N: usize> Sorted<T, N> {
         Some(first)
     }
 
-    // Keeps the entries that pass the test, in their order.
+    // Keeps the entries that pass the test, in their order. Written out, since the `retain` of std is that of a vector on the
+    // heap.
     pub fn retain<F: Fn(&T) -> bool>(&mut self, test: F)
         requires { F.IsAlwaysCallable test }
         ensures { (passes : T → Bool) → ((x : T) (b : Bool) → FnReturnsAt F.Fn test x b → b ≡ passes x) → entries_of self.new ≡ filter passes (entries_of self.old) }

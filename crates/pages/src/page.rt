@@ -14,10 +14,8 @@ fn add(page: &mut Vec<u8>, line: Line) -> Result<(), AllocError>
     ensures { MatchResult result (λ _. page.new.items ≡ page.old.items ++ line_text line) (λ _. page.new.items ≡ page.old.items) }
 {
     let mut text = [0u8; LONGEST_LINE];
-    match line.write(&mut text) {
-        Ok(len) => page.extend_from_slice(&text[..len]),
-        Err(_) => unreachable(),
-    }
+    let len = line.write(&mut text).unwrap();
+    page.extend_from_slice(&text[..len])
 }
 
 // Adds the line of what ended a run, where that has one.
@@ -25,11 +23,8 @@ fn add_end(page: &mut Vec<u8>, end: Result<(), StreamFault>) -> Result<(), Alloc
     ensures { OnOk result (page.new.items ≡ page.old.items ++ end_text end) }
 {
     match end {
-        Ok(()) => Ok(()),
-        Err(fault) => match fault {
-            StreamFault::Refused(refusal) => add(page, Line::Refused(refusal)),
-            StreamFault::NoMemory { .. } => Ok(()),
-        },
+        Err(StreamFault::Refused(refusal)) => add(page, Line::Refused(refusal)),
+        Ok(()) | Err(StreamFault::NoMemory { .. }) => Ok(()),
     }
 }
 

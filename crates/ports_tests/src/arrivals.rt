@@ -59,10 +59,10 @@ fn holders_are_those_who_may_send_lower(rt: HostRuntime) -> Result<(), Fail> {
         ([254, 0, 0, 0, 0, 0, 0, 0], 0),
     ];
     for (masks, holders) in cases {
-        match Reach::new(&masks) {
-            Ok(reach) => assert_eq!(rt; port.holders(&reach, pair), Mask { bits: holders }),
-            Err(_) => return Err(Fail::new("no table")),
-        }
+        let Ok(reach) = Reach::new(&masks) else {
+            return Err(Fail::new("no table"));
+        };
+        assert_eq!(rt; port.holders(&reach, pair), Mask { bits: holders });
     }
     Ok(())
 }

@@ -100,6 +100,7 @@ impl NetFault {
     pub fn number(self) -> u8
         ensures { result ≡ net_number self }
     {
+        // one case holds the holders, and so the cases have no numbers that a cast could give
         match self {
             NetFault::NoSuchPort => 3,
             NetFault::OutOfReach => 4,

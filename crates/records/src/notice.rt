@@ -32,7 +32,8 @@ impl TryFrom<u8> for Action {
     }
 }
 
-// What a dispatcher of a port hands in, as plain numbers: nothing is said of their range.
+// What a dispatcher of a port hands in, as plain numbers: nothing is said of their range, since a net refuses them in an
+// order of its own.
 #[derive(Clone, Copy, PartialEq, Eq, Debug)]
 pub struct HandIn {
     pub port: u8,

@@ -4,7 +4,7 @@ ghost use Rattle.row_wire.specs.Rings.{ringed};
 
 use std::marker::Model;
 
-// A queue of at most `N` items: `len` slots, from `head` on and round the end, hold them. What it does takes a time that
+// A queue of at most `N` items, of our own since that of std is on the heap: `len` slots, from `head` on and round the end, hold them. What it does takes a time that
 // does not depend on how many it holds.
 #[derive(Drop)]
 pub struct Ring<T, const N: usize> {

@@ -32,7 +32,7 @@ impl RowWire {
     }
 }
 
-// Where the ring of a line lies, if there is such a line.
+// Where the ring of a line lies, if there is such a line. One flat array, since arrays in arrays would ask for the same test.
 fn place(ends: Ends) -> Option<usize>
     ensures { result ≡ place_of ends.from ends.to }
 {

@@ -31,7 +31,8 @@ pub struct Unopened<W, B> {
     pub board: B,
 }
 
-// Reads the next event, runs it and keeps its answer; false at the end of the stream.
+// Reads the next event, runs it and keeps its answer; false at the end of the stream. No more is answered, since the answer is
+// kept already.
 fn run_next<W: Wire, B: Board>(
     events: &mut EventReader,
     net: &mut Net<W, B>,

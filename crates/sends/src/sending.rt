@@ -46,6 +46,7 @@ fn put_copies<W: Wire>(wire: &mut W, port: u8, notice: Decided)
     requires { room W.depth (W.line wire.old) port (copies_on port (notice ∷ [])) ≡ true }
     ensures { Grown (W.line wire.old) (W.line wire.new) (copies_on port (notice ∷ [])) }
 {
+    // a `for`, since each turn changes the wire
     for to in 0..8u8 {
         let ends = Ends { from: port, to };
         if is_copied(notice, ends) {

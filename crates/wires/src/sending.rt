@@ -31,6 +31,7 @@ fn put_on_each<W: Wire>(wire: &mut W, from: u8, to: Mask, record: Record)
     requires { Space W.depth (W.line wire.old) from to.bits }
     ensures { Grown (W.line wire.old) (W.line wire.new) (to_each from to.bits «record») }
 {
+    // a `for`, since each turn changes the wire
     for end in 0..8u8 {
         if to.names(end) {
             wire.put(Ends { from, to: end }, record).unwrap();

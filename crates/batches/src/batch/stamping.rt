@@ -42,6 +42,7 @@ impl Batch {
         }
         let mut notices = Sorted::new();
         let mut last = floor;
+        // a `for`, since each pair is the floor for the next and the first that does not fit ends it
         for n in undecided {
             if is_within(n, cuts) {
                 let Some(pair) = next_pair(last, n.clock) else {

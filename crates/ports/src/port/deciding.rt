@@ -22,6 +22,7 @@ fn join(waiting: &mut Waiting, notices: &[Decided], port: u8)
     requires room { count_from port (waiting_of waiting.old) + length (sent_to port notices.now) ≤ 8 }
     ensures { waiting_of waiting.new ≡ placed_all decided_before (sent_to port notices.now) (waiting_of waiting.old) }
 {
+    // a `for`, since each turn changes what waits
     for d in notices {
         if d.notice.to.names(port) {
             waiting.add(*d).unwrap();

@@ -43,6 +43,7 @@ impl Port {
     pub fn holders(&self, reach: &Reach, pair: Pair) -> Mask
         ensures { result.bits ≡ holders_of reach.now.masks self.now.own (port_view self.now) pair }
     {
+        // bit by bit: a mask is the sum of the bits of those who hold
         let mut bits = 0;
         for (f, clearance) in self.clearances.iter().enumerate() {
             if reach.sends(f as u8, self.own) & holds(*clearance, pair) {
