@@ -5,10 +5,10 @@
 ghost use Rattle.std.specs.Prelude.{◌≡◌, ◌<◌, IfOk, OnSome};
 
 use events::event::Field;
-use events::reader::{LONGEST, Reader};
+use events::reader::Reader;
 use records::reach::Reach;
 use std::io;
-use std::io::Read;
+use streams::input::read_input;
 
 // The letter of the next field, or the number of its refusal; none at the end of the stream.
 fn next_letter(reader: &mut Reader) -> Result<Option<char>, u8>
@@ -38,9 +38,6 @@ fn print_fields(rt: &HostRuntime, mut reader: Reader) -> io::Result<()> {
 }
 
 fn main(rt: HostRuntime) -> io::Result<()> {
-    let mut stream = Vec::new(rt.alloc());
-    rt.stdin()
-        .take(LONGEST as u64 + 1)
-        .read_to_end(&mut stream)?;
+    let stream = read_input(rt.alloc(), rt.stdin())?;
     print_fields(&rt, Reader::new(stream.as_slice()))
 }

@@ -10,14 +10,13 @@
 
 use bag_wire::BagWire;
 use events::event::Event;
-use events::reader::LONGEST;
 use radio_box::carrying::carry;
 use radio_box::outcome::Carried;
 use records::notice::Record;
 use records::reach::Reach;
 use std::io;
-use std::io::Read;
 use streams::behind::{EventReader, open_stream};
+use streams::input::read_input;
 use wires::wire::Wire;
 
 // Prints what a fetch at the place took.
@@ -66,10 +65,7 @@ fn carry_events(rt: &HostRuntime, table: &Reach, mut reader: EventReader) -> io:
 }
 
 fn main(rt: HostRuntime) -> io::Result<()> {
-    let mut stream = Vec::new(rt.alloc());
-    rt.stdin()
-        .take(LONGEST as u64 + 1)
-        .read_to_end(&mut stream)?;
+    let stream = read_input(rt.alloc(), rt.stdin())?;
     match open_stream(stream.as_slice()) {
         Ok(opened) => carry_events(&rt, &opened.table(), opened.events(stream.as_slice())),
         Err(part) => println!(rt; "0 X {}", part.number()),

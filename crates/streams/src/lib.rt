@@ -2,6 +2,7 @@
 #![tactic(auto)]
 
 pub mod behind; // reads the table, and then event by event
+pub mod input; // what a program reads of a stream
 pub mod part; // where and why a stream ends a run
 pub mod stream; // reads a whole stream
 
