@@ -76,10 +76,3 @@ module _ {X : Type 0} {key : X → List ℕ} {before : X → X → Bool} (total 
   rising_from_strict (y ∷ ys) up =
       let both = and_parts (all_pass (before y) ys) (pairs_pass before ys) up in
       and_from (all_pass (λ z. not (before z y)) ys) (pairs_pass (λ u v. not (before v u)) ys) (all_weaker (before y) (λ z. not (before z y)) (λ z h. not_from_false (before z y) (total.not_after y z h)) ys both.0) (rising_from_strict ys both.1)
-
-module _ {X : Type 0} (test : X → X → Bool) (x : X) (xs : List X) where
-  pub pairs_first : pairs_pass test (x ∷ xs) ≡ true → all_pass (test x) xs ≡ true
-  pairs_first up = (and_parts (all_pass (test x) xs) (pairs_pass test xs) up).0
-
-  pub pairs_rest : pairs_pass test (x ∷ xs) ≡ true → pairs_pass test xs ≡ true
-  pairs_rest up = (and_parts (all_pass (test x) xs) (pairs_pass test xs) up).1

@@ -8,7 +8,7 @@ use crate::list::{Full, insert, take_first};
 use std::alloc::AllocError;
 
 // At most N entries, in their order: the first `len` places have them. It allocates nothing, and it can be copied, which
-// the library's vector of fixed capacity can't.
+// the library's vector of fixed capacity can't. (Copy and Clone are written out, since a derive of them is refused here.)
 pub struct Sorted<T: Entry, const N: usize> {
     places: [T; N],
     len: usize,
@@ -56,6 +56,7 @@ impl<T: Entry, const N: usize> Sorted<T, N> {
     pub fn insert(&mut self, x: T) -> Result<usize, Full>
         ensures { Inserted x self.old self.new result }
     {
+        // tested here, so that a refusal leaves the whole value as it was
         if self.len == N {
             return Err(Full);
         }
@@ -76,8 +77,8 @@ impl<T: Entry, const N: usize> Sorted<T, N> {
         Some(first)
     }
 
-    // Keeps the entries that pass the test, in their order. Written out, since the `retain` of std is that of a vector on the
-    // heap.
+    // Keeps the entries that pass the test, in their order. Written out, since std's and the library's `retain` are of vectors that
+    // can't be copied.
     pub fn retain<F: Fn(&T) -> bool>(&mut self, test: F)
         requires { F.IsAlwaysCallable test }
         ensures { (passes : T → Bool) → ((x : T) (b : Bool) → FnReturnsAt F.Fn test x b → b ≡ passes x) → entries_of self.new ≡ filter passes (entries_of self.old) }

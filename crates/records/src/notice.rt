@@ -1,5 +1,5 @@
 // Berth notices: what a dispatcher says, before and after it is decided, and what a line carries.
-ghost use Rattle.records.specs.Actions.{Names};
+ghost use Rattle.records.specs.Actions.{Names, Says};
 ghost use Rattle.records.specs.declared.notice.Record.TheVariants.{Empty};
 ghost use Rattle.std.specs.Prelude.{◌≡◌};
 
@@ -54,6 +54,22 @@ pub struct Content {
     pub berth: u8,
     pub action: Action,
     pub vessel: u16,
+}
+
+impl TryFrom<HandIn> for Content {
+    type Error = UnknownAction;
+
+    ghost try_from_gives = { Says };
+
+    fn try_from(said: HandIn) -> Result<Content, UnknownAction> {
+        Ok(Content {
+            to: Mask { bits: said.mask },
+            home: said.home,
+            berth: said.berth,
+            action: Action::try_from(said.action)?,
+            vessel: said.vessel,
+        })
+    }
 }
 
 // What a dispatcher says. He is one of four at his port, `source`, and `count` is 1 for his first notice there, 2 for

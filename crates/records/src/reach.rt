@@ -57,10 +57,7 @@ impl Reach {
     pub fn mask(&self, port: u8) -> Mask
         ensures { result ≡ slice_index_or self.now.masks port nobody }
     {
-        self.masks
-            .get(port as usize)
-            .copied()
-            .unwrap_or(Mask { bits: 0 })
+        self.masks.get(port as usize).copied().unwrap_or_default()
     }
 
     // Whether port `from` can send to port `to`.
