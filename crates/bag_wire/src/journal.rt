@@ -23,7 +23,7 @@ pub fn first(entries: &[Entry], ends: Ends) -> Option<usize>
 pub fn mark(entries: &mut [Entry], ends: Ends)
     ensures { entries.new ≡ map (marked ends.from ends.to) entries.old }
 {
-    // a `for`, since each turn changes an entry
+    // a `for`: no plainer with a closure that writes
     for entry in entries.iter_mut() {
         if entry.is_on(ends) {
             entry.arrived = true;

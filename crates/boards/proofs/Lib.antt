@@ -1,3 +1,4 @@
 pub mod BerthLaws
+pub mod Lists
 pub mod PlaceLaws
 pub mod ShownLaws

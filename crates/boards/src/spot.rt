@@ -24,8 +24,8 @@ impl Spot {
         }
     }
 
-    // Where the list lies in an array of all lists, if there is such a list. The array is flat, since arrays in arrays would ask
-    // for the same test.
+    // Where the list lies in an array of all lists, if there is such a list. The array is flat: with arrays in arrays, which
+    // were tried, the proof of a board's `apply` did not know how long the inner ones are.
     pub(crate) fn index(self) -> Option<usize>
         ensures { result ≡ place_of self.watching self.home self.berth }
     {

@@ -7,7 +7,7 @@ use std::test::Fail;
 // The event of the second field, if it is one.
 fn second(stream: &[u8]) -> Option<Event> {
     let mut reader = Reader::new(stream);
-    let _ = reader.next();
+    reader.next().ok()?;
     match reader.next() {
         Ok(Some(Field::Event(event))) => Some(event),
         _ => None,

@@ -1,2 +1,3 @@
 pub mod RingLaws
+pub mod RowFits
 pub mod RowLaws
