@@ -3,8 +3,8 @@
 
 #[cfg(test)]
 mod tests {
-    use batches::batch::Batch;
     use batches::batch::stamping::next_pair;
+    use batches::batch::{Batch, BatchFault};
     use batches::counting::{copies, count_for, count_from};
     use batches::keeping::is_within;
     use ordered::Sorted;
@@ -57,21 +57,18 @@ mod tests {
         assert_eq!(rt; next_pair(Some(pair(100, 65535)), 101), Some(pair(101, 0)));
     }
 
-    // Clock and step of the notices of the batch, up to four of them.
-    fn stamps(floor: Option<Pair>, undecided: &[Handed], cuts: &[u16; 4]) -> (usize, [Pair; 4]) {
+    // How many notices the batch has, and clock and step of the first four of them; or why there is none.
+    fn stamps(
+        floor: Option<Pair>,
+        undecided: &[Handed],
+        cuts: &[u16; 4],
+    ) -> Result<(usize, [Pair; 4]), BatchFault> {
+        let batch = Batch::stamp(1, floor, undecided, cuts)?;
         let mut found = [pair(0, 0); 4];
-        match Batch::stamp(1, floor, undecided, cuts) {
-            Err(_) => (99, found),
-            Ok(batch) => {
-                let list = batch.list();
-                for (i, d) in list.iter().enumerate() {
-                    if i < 4 {
-                        found[i] = d.stamp.pair;
-                    }
-                }
-                (list.len(), found)
-            }
+        for (place, d) in found.iter_mut().zip(batch.list()) {
+            *place = d.stamp.pair;
         }
+        Ok((batch.list().len(), found))
     }
 
     #[test]
@@ -86,25 +83,32 @@ mod tests {
         let none = pair(0, 0);
         assert_eq!(rt;
             stamps(None, &undecided, &[1, 0, 5, 1]),
-            (3, [pair(90, 0), pair(90, 1), pair(200, 0), none])
+            Ok((3, [pair(90, 0), pair(90, 1), pair(200, 0), none]))
         );
         // above a floor of its own second
         assert_eq!(rt;
             stamps(Some(pair(150, 9)), &undecided, &[1, 0, 5, 1]),
-            (3, [pair(150, 10), pair(150, 11), pair(200, 0), none])
+            Ok((3, [pair(150, 10), pair(150, 11), pair(200, 0), none]))
         );
-        assert_eq!(rt; stamps(None, &undecided, &[0, 0, 4, 0]), (0, [none; 4]));
+        assert_eq!(rt; stamps(None, &undecided, &[0, 0, 4, 0]), Ok((0, [none; 4])));
         // one step too many refuses the whole batch
         assert_eq!(rt;
             stamps(Some(pair(150, 65534)), &undecided, &[1, 0, 5, 1]),
-            (99, [none; 4])
+            Err(BatchFault::StepUsedUp)
         );
         assert_eq!(rt;
             stamps(Some(pair(150, 65534)), &undecided, &[1, 0, 4, 1]),
-            (2, [pair(150, 65535), pair(200, 0), none, none])
+            Ok((2, [pair(150, 65535), pair(200, 0), none, none]))
         );
-        assert_eq!(rt; stamps(None, &[undecided[0]; 16], &[1, 0, 0, 0]).0, 16);
-        assert_eq!(rt; stamps(None, &[undecided[0]; 17], &[1, 0, 0, 0]).0, 99);
+        let first = |stamped: (usize, [Pair; 4])| stamped.0;
+        assert_eq!(rt;
+            stamps(None, &[undecided[0]; 16], &[1, 0, 0, 0]).map(first),
+            Ok(16)
+        );
+        assert_eq!(rt;
+            stamps(None, &[undecided[0]; 17], &[1, 0, 0, 0]).map(first),
+            Err(BatchFault::TooMany)
+        );
     }
 
     #[test]

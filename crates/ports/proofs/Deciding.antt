@@ -1,5 +1,5 @@
 -- What a decide that is not refused has passed. Assumes nothing.
-use Rattle.std.proofs.Common.{◌≡◌, ℕ, ◌+◌, ◌≤◌, Bool, true, false, not, ◌||◌, eqb, ltb, length, None, Option, refl, arith}
+use Rattle.std.proofs.Common.{◌≡◌, ℕ, ◌+◌, ◌≤◌, ◌<◌, Bool, true, false, not, ◌||◌, eqb, ltb, length, Some, None, Option, SomeIff, refl, ap, ◌∙◌, arith}
 use Rattle.std.proofs.lemmas.Bool.{or_parts, not-false, eqb-true, ltb-false}
 use Rattle.records.specs.declared.fault.NetFault.{NetFault}
 use Rattle.records.specs.declared.fault.NetFault.TheVariants.{WrongNumber, WrongCut, StepUsedUp, OwnWaitingFull}
@@ -8,7 +8,7 @@ use Rattle.model.specs.Batches.{sent_to, count_from}
 use Rattle.model.specs.Calls.{Decide, decision}
 use Rattle.model.specs.Stamping.{stampable}
 use Rattle.model.specs.Refusals.{◌when◌else◌, cuts_fit}
-use Rattle.ports.specs.Ports.{deciding_fault}
+use Rattle.ports.specs.Ports.{number_of, deciding_fault}
 
 -- tests that did not refuse
 past : (f : NetFault) (b : Bool) (next : Option NetFault) → f when b else next ≡ None → (b ≡ false) × (next ≡ None)
@@ -30,6 +30,11 @@ module _ (o : PortView) (x : Decide) (none : deciding_fault o x ≡ None) where
 
   pub number_low : x.number ≤ 65535
   number_low = ltb-false _ _ (or_parts _ _ after_number.0).1
+
+  -- the number that comes next, as `checked_add` finds it
+  pub number_after : (r : Option ℕ) → SomeIff r (x.number + 1 < 65536) (x.number + 1) → number_of r ≡ o.number + 1
+  number_after (Some n) next = next.1 ∙ ap (λ n. n + 1) number_is
+  number_after None beyond = omega (arith, beyond, number_is, number_low)
 
   pub own_fit : count_from x.port o.waiting + length (sent_to x.port (decision o x)) ≤ 8
   own_fit = ltb-false _ _ (past OwnWaitingFull _ None after_steps.1).0

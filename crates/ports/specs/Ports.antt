@@ -23,6 +23,11 @@ use Rattle.model.specs.Steps.{after_hand_in, after_decide, after_fetch, after_re
 use Rattle.ports.specs.declared.port.Port.{Port}
 use Rattle.ports.specs.Held.{undecided_of, waiting_of, Lowest}
 
+-- the number of the next batch; behind 65,535 there is none, and 65,536 stands for that
+abbrev pub number_of : Option ℕ → ℕ
+number_of None = 65536
+number_of (Some n) = n
+
 -- a dispatcher beyond the four has count and clock 0, a source beyond the eight has no clearance
 abbrev pub port_view : Port → PortView
 port_view p = record {
@@ -30,7 +35,7 @@ port_view p = record {
   given = λ d. slice_index (map (λ x. x.given) p.dispatchers) d;
   settled = λ d. slice_index (map (λ x. x.settled) p.dispatchers) d;
   clock = λ d. slice_index (map (λ x. x.clock) p.dispatchers) d;
-  number = p.number;
+  number = number_of p.number;
   floor = p.floor;
   clearance = λ f. slice_index_or p.clearances f None;
   waiting = waiting_of p.waiting;

@@ -1,11 +1,11 @@
 // A batch is planned, and decided.
-ghost use Rattle.std.specs.Prelude.{◌≡◌, ◌+◌, ◌<◌, ◌≤◌, true, length, nat_eq};
+ghost use Rattle.std.specs.Prelude.{◌≡◌, ◌==◌, ◌+◌, ◌<◌, ◌≤◌, true, length, nat_eq};
 ghost use Rattle.model.specs.Batches.{count_from, sent_to};
 ghost use Rattle.model.specs.Lists.{placed_all};
 ghost use Rattle.model.specs.Refusals.{cuts_fit};
 ghost use Rattle.ordered.specs.Orders.{all_pass};
 ghost use Rattle.ports.specs.Held.{waiting_of};
-ghost use Rattle.ports.specs.Ports.{port_view, deciding, Plans, Decides};
+ghost use Rattle.ports.specs.Ports.{number_of, port_view, deciding, Plans, Decides};
 ghost use Rattle.records.specs.Keys.{decided_before};
 
 use crate::port::Port;
@@ -31,6 +31,13 @@ fn join(waiting: &mut Waiting, notices: &[Decided], port: u8)
 }
 
 impl Port {
+    // Whether the next batch has this number.
+    fn is_next(&self, number: u16) -> bool
+        ensures { result ≡ (number == number_of self.now.number) }
+    {
+        self.number == Some(number)
+    }
+
     // Whether each cut is at least the last count decided and at most the last given.
     fn cuts_fit(&self, cuts: &[u16; 4]) -> bool
         ensures { result ≡ cuts_fit (port_view self.now) cuts.now }
@@ -45,7 +52,7 @@ impl Port {
     pub fn plan(&self, number: u16, cuts: &[u16; 4]) -> Result<Batch, NetFault>
         ensures { Plans self.now (deciding self.now number cuts.now) result }
     {
-        if number as u32 != self.number {
+        if !self.is_next(number) {
             return Err(NetFault::WrongNumber);
         }
         if !self.cuts_fit(cuts) {
@@ -77,7 +84,7 @@ impl Port {
             d.settling(cuts[3]),
         ];
         self.floor = batch.floor();
-        self.number += 1;
+        self.number = number.checked_add(1);
         Ok(batch)
     }
 }

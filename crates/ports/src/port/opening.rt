@@ -18,7 +18,7 @@ impl Port {
             own: own % 8,
             undecided: Undecided::new(),
             dispatchers: [Dispatcher::new(); 4],
-            number: 0,
+            number: Some(0),
             floor: None,
             clearances: [None; 8],
             waiting: Waiting::new(),

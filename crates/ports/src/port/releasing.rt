@@ -15,20 +15,14 @@ use records::stamp::Pair;
 fn holds(clearance: Option<Pair>, pair: Pair) -> bool
     ensures { result ≡ holds clearance pair }
 {
-    match clearance {
-        Some(clearance) => clearance.is_before(pair),
-        None => true,
-    }
+    clearance < Some(pair)
 }
 
 // The floor with one more pair among those that it is the highest of.
 fn raised(floor: Option<Pair>, pair: Pair) -> Option<Pair>
     ensures { result ≡ raised floor pair }
 {
-    match floor {
-        Some(floor) if !floor.is_before(pair) => Some(floor),
-        _ => Some(pair),
-    }
+    floor.max(Some(pair))
 }
 
 impl Port {
@@ -43,7 +37,7 @@ impl Port {
     pub fn holders(&self, reach: &Reach, pair: Pair) -> Mask
         ensures { result.bits ≡ holders_of reach.now.masks self.now.own (port_view self.now) pair }
     {
-        // bit by bit: a mask is the sum of the bits of those who hold
+        // bit by bit: a sum by an iterator would have to be shown to fit a byte all the same
         let mut bits = 0;
         for (f, clearance) in self.clearances.iter().enumerate() {
             if reach.sends(f as u8, self.own) & holds(*clearance, pair) {

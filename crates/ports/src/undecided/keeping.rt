@@ -1,11 +1,11 @@
 // Adding a notice, and what a batch leaves.
 ghost use Rattle.model.specs.Batches.{left};
 ghost use Rattle.ports.specs.Held.{undecided_of, Adds};
-ghost use Rattle.std.specs.Prelude.{◌≡◌, []};
+ghost use Rattle.std.specs.Prelude.{◌≡◌, ◌≤◌, [], length};
 
 use crate::undecided::Undecided;
 use batches::keeping::is_within;
-use ordered::{Full, Sorted};
+use ordered::Sorted;
 use records::fault::NetFault;
 use records::notice::Handed;
 
@@ -18,9 +18,10 @@ impl Undecided {
         }
     }
 
-    // The notices, in their order.
+    // The notices, in their order: 16 at most.
     pub(crate) fn list(&self) -> &[Handed]
-        ensures { result.now ≡ undecided_of self.now }
+        ensures all { result.now ≡ undecided_of self.now }
+        ensures few { length result.now ≤ 16 }
     {
         self.notices.as_slice()
     }
@@ -29,10 +30,9 @@ impl Undecided {
     pub(crate) fn add(&mut self, notice: Handed) -> Result<(), NetFault>
         ensures { Adds self.old self.new notice result }
     {
-        match self.notices.insert(notice) {
-            Ok(_) => Ok(()),
-            Err(Full) => Err(NetFault::UndecidedFull),
-        }
+        let full = |_| NetFault::UndecidedFull;
+        self.notices.insert(notice).map_err(full)?;
+        Ok(())
     }
 
     // The batch leaves: only the notices above their dispatchers' cuts stay.

@@ -24,7 +24,7 @@ invariant_of-self c =
     let d = c.in-Notice.notice in
     let fits = noticed p c.args.source c.args.record d c.in-Notice.is (taken p c.args.source c.args.record c.takes.result c.takes.ensures c.if-not-takes.false) in
     let here = addressed_joined p.own d p.waiting c.add.new.self c.add.result c.add.ensures p.addressed (fits_here p.own c.args.source d (waiting_of p.waiting) fits) in
-    record { port = p.port; numbers = p.numbers; four = p.four; sources = simp length-set p.sources; addressed = here }
+    record { port = p.port; four = p.four; sources = simp length-set p.sources; addressed = here }
 
 pub returns-in-Notice : goal.returns-in-Notice
 returns-in-Notice c =

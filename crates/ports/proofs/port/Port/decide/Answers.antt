@@ -1,4 +1,4 @@
-use Rattle.std.proofs.Common.{◌≡◌, ℕ, List, [], ◌∷◌, map, get_or, sym, refl, ap, ◌∙◌, arith}
+use Rattle.std.proofs.Common.{◌≡◌, ℕ, List, [], ◌∷◌, map, get_or, sym, refl, ap, ◌∙◌}
 use Rattle.batches.specs.Stampings.{batch_of}
 use Rattle.model.specs.Batches.{batch, sent_to, count_from}
 use Rattle.model.specs.Lists.{placed_all}
@@ -6,7 +6,7 @@ use Rattle.records.specs.Keys.{decided_before}
 use Rattle.model.specs.Calls.{decision}
 use Rattle.ports.specs.Held.{undecided_of, waiting_of}
 use Rattle.ports.specs.Ports.{port_view, deciding}
-use Rattle.ports.proofs.Deciding.{number_is, number_low, own_fit}
+use Rattle.ports.proofs.Deciding.{number_after, own_fit}
 use Rattle.ports.proofs.Joining.{batch_stamped, batch_room, addressed_all}
 use Rattle.ports.specs.declared.dispatcher.Dispatcher.{Dispatcher}
 use Rattle.ports.proofs.Dispatchers.{numbers_kept, numbers_are}
@@ -32,7 +32,7 @@ invariant_of-self c =
     let x = deciding p c.args.number c.args.cuts.now in
     let none = c.in_ok-batch.ensures.accepted in
     let addressed = addressed_all p.own c.list.result.now (waiting_of p.waiting) (waiting_of c.join.new.waiting) c.join.ensures p.addressed in
-    record { port = p.port; numbers = omega (arith, number_is (port_view p) x none, number_low (port_view p) x none); four = refl; sources = p.sources; addressed = addressed }
+    record { port = p.port; four = refl; sources = p.sources; addressed = addressed }
 
 pub returns : goal.returns
 returns c =
@@ -47,6 +47,6 @@ returns c =
       c.in_ok-batch.ensures,
       record {
         own = refl;
-        view = view_same _ _ c.keep.ensures (ap at given) (ap at settled) (ap at clock) refl (c.floor-self.ensures ∙ c.in_ok-batch.ensures.floor) refl (c.join.ensures ∙ ap (λ bs. placed_all decided_before (sent_to p.own bs) (waiting_of p.waiting)) (c.list.ensures ∙ c.in_ok-batch.ensures.notices));
+        view = view_same _ _ c.keep.ensures (ap at given) (ap at settled) (ap at clock) (number_after (port_view p) (deciding p c.args.number cuts) c.in_ok-batch.ensures.accepted c.checked_add-self.result c.checked_add-self.ensures) (c.floor-self.ensures ∙ c.in_ok-batch.ensures.floor) refl (c.join.ensures ∙ ap (λ bs. placed_all decided_before (sent_to p.own bs) (waiting_of p.waiting)) (c.list.ensures ∙ c.in_ok-batch.ensures.notices));
       },
     )
