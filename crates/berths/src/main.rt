@@ -9,16 +9,17 @@ use events::reader::Reader;
 use records::reach::Reach;
 use std::io;
 use streams::input::read_input;
+use streams::part::Part;
 
-// The letter of the next field, or the number of its refusal; none at the end of the stream.
-fn next_letter(reader: &mut Reader) -> Result<Option<char>, u8>
+// The letter of the next field; none at the end of the stream.
+fn next_letter(reader: &mut Reader) -> Result<Option<char>, Part>
     ensures stream { reader.new.stream.now ≡ reader.old.stream.now }
     ensures onward { IfOk result (λ o. OnSome o (reader.old.place < reader.new.place)) }
 {
-    match reader.next().map_err(|fault| fault.number())? {
+    match reader.next()? {
         Some(Field::Event(event)) => Ok(Some(event.letter())),
         Some(Field::Table(masks)) => {
-            Reach::new(masks).map_err(|fault| fault.number())?;
+            Reach::new(masks)?;
             Ok(Some('T'))
         }
         None => Ok(None),
@@ -32,7 +33,7 @@ fn print_fields(rt: &HostRuntime, mut reader: Reader) -> io::Result<()> {
         match next_letter(&mut reader) {
             Ok(Some(letter)) => println!(rt; "{place} {letter} 0")?,
             Ok(None) => return Ok(()),
-            Err(number) => return println!(rt; "{place} X {number}"),
+            Err(part) => return println!(rt; "{place} X {}", part.number()),
         }
     }
 }

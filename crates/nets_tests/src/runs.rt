@@ -41,16 +41,14 @@ pub fn released<W: Wire, B: Board>(
     net: &mut Net<W, B>,
     port: u8,
 ) -> Result<(u32, u16, u8, u16, Outcome), NetFault> {
-    match net.release(port) {
-        Ok((n, outcome)) => Ok((
-            n.stamp.pair.clock,
-            n.stamp.pair.step,
-            n.stamp.port,
-            n.notice.vessel,
-            outcome,
-        )),
-        Err(fault) => Err(fault),
-    }
+    let (n, outcome) = net.release(port)?;
+    Ok((
+        n.stamp.pair.clock,
+        n.stamp.pair.step,
+        n.stamp.port,
+        n.notice.vessel,
+        outcome,
+    ))
 }
 
 // Port 0 says at 100 that vessel 7 takes berth 4 of port 0, port 1 at 90 that vessel 9 does. Port 1 releases 7 first, and its

@@ -1,5 +1,5 @@
 -- Room on the lines from a port, port by port, and what `send` tells of it. Assumes nothing.
-use Rattle.std.proofs.Common.{◌≡◌, ℕ, zero, suc, ◌+◌, ◌-◌, ◌<◌, ◌≤◌, Bool, true, false, cond, leb, length, Ok, Err, Result, MatchBool, sym, refl, ap, ◌∙◌, ⊎_elim, add-one, arith}
+use Rattle.std.proofs.Common.{◌≡◌, ℕ, zero, suc, ◌-◌, ◌<◌, ◌≤◌, Bool, true, false, cond, leb, length, Ok, Err, Result, MatchBool, sym, refl, ⊎_elim, arith}
 use Rattle.std.proofs.lemmas.Bool.{both_ways, cases_Bool, cases_lt, and_from, le-leb, lt-leb, leb-true, cond-true, cond-false}
 use Rattle.std.proofs.lemmas.Bool.Decides.{nat_tests}
 use Rattle.records.specs.declared.fault.NetFault.{NetFault}
@@ -14,9 +14,6 @@ use Rattle.model.proofs.Passing.{every_at}
 use Rattle.sends.specs.Sendings.{AllOrNone}
 
 -- ---- a test of the first numbers
-
-pub every_more : (n : ℕ) (t : ℕ → Bool) → every n t ≡ true → t n ≡ true → every (n + 1) t ≡ true
-every_more n t e h = ap (λ k. every k t) (add-one n) ∙ and_from (every n t) (t n) e h
 
 pub every_from : (n : ℕ) (t : ℕ → Bool) → ((k : ℕ) → k < n → t k ≡ true) → every n t ≡ true
 every_from zero t h = refl

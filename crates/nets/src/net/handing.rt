@@ -12,7 +12,7 @@ use crate::net::Net;
 use boards::board::Board;
 use records::fault::NetFault;
 use records::mask::Mask;
-use records::notice::{Action, Content, HandIn};
+use records::notice::{Content, HandIn};
 use wires::wire::Wire;
 
 // Whether the number is none of a port's four dispatchers, 0 to 3.
@@ -31,13 +31,7 @@ impl<W, B> Net<W, B> {
         if self.lacks(said.home) || said.berth > 15 || said.vessel == 0 {
             return Err(NetFault::WrongContent);
         }
-        Ok(Content {
-            to: Mask { bits: said.mask },
-            home: said.home,
-            berth: said.berth,
-            action: Action::try_from(said.action)?,
-            vessel: said.vessel,
-        })
+        Ok(Content::try_from(said)?)
     }
 
     // Whether the port's notice may go to another port or to itself, or the mask does not name that one.
