@@ -15,6 +15,7 @@ pub enum Outcome {
 }
 
 impl Outcome {
+    // Its number as the rules tell it; a name says more than a conversion.
     pub fn number(self) -> u8
         ensures { result ≡ outcome_number self }
     {

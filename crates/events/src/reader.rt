@@ -65,7 +65,7 @@ fn field(tag: Tag, v: &[u8]) -> Field<'_>
     })
 }
 
-// The tag of a field with this number and length, where so many bytes follow its head; or why the field is refused.
+// The tag of a field with this number, as it came, and this length, where so many bytes follow its head; or why it is refused.
 fn tag_of(first: bool, number: u8, len: usize, there: usize) -> Result<Tag, ReaderFault>
     ensures tag { IfOk result (λ tag. number_of tag ≡ number) }
     ensures fault { result_err result ≡ field_fault first number len there }

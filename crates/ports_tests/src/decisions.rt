@@ -101,6 +101,7 @@ fn eight_of_its_own_wait(rt: HostRuntime) {
 #[test]
 fn numbers_and_counts_end(rt: HostRuntime) {
     let mut port = Port::new(0);
+    // each count is handed in and decided, so the loop goes over the counts themselves
     for count in 1..65535u16 {
         assert_eq!(rt; hand(&mut port, 0, count as u32, 2), Ok(count));
         assert_eq!(rt; taken(&mut port, count - 1, [count, 0, 0, 0]), Ok(1));

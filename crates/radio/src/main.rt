@@ -33,7 +33,7 @@ fn print_record(rt: &HostRuntime, place: usize, record: Record) -> io::Result<()
     }
 }
 
-// Carries the event at the place and prints what came of it, if it is for a box.
+// Carries the event at the place and prints what came of it, if it is for a box. No two of what it is given go on together.
 fn carry_event(
     rt: &HostRuntime,
     wire: &mut BagWire,

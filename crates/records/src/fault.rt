@@ -88,6 +88,7 @@ impl From<UnknownAction> for NetFault {
     }
 }
 
+// Each fault tells its number under this one name, which says more than a conversion.
 impl TableFault {
     pub fn number(self) -> u8
         ensures { result ≡ table_number self }

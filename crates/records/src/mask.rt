@@ -31,7 +31,7 @@ impl Mask {
         self.bits.count_ones() as usize
     }
 
-    // The mask of the other ports that it names.
+    // The mask of the other ports that it names: the one place where a port is taken out of a mask.
     pub fn without(self, port: u8) -> Mask
         ensures value { result.bits ≡ without port self.bits }
         ensures others { (q : ℕ) → named result.bits q ≡ (named self.bits q && not (q == port)) }

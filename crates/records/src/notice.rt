@@ -42,7 +42,7 @@ pub struct HandIn {
     pub mask: u8,
     pub home: u8,
     pub berth: u8,
-    pub action: u8,
+    pub action: u8, // as it came: a net tells of a wrong one in an order of its own
     pub vessel: u16,
 }
 

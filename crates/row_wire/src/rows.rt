@@ -32,7 +32,8 @@ impl RowWire {
     }
 }
 
-// Where the ring of a line lies, if there is such a line. One flat array, since arrays in arrays would ask for the same test.
+// Where the ring of a line lies, if there is such a line. One flat array: arrays in arrays would ask for the same test, and
+// index twice.
 fn place(ends: Ends) -> Option<usize>
     ensures { result ≡ place_of ends.from ends.to }
 {
@@ -83,6 +84,7 @@ impl Wire for RowWire {
     {}
 
     fn free(&self, ends: Ends) -> usize {
+        // no place is free where there is no line
         let Some(k) = place(ends) else {
             return 0;
         };

@@ -9,7 +9,7 @@ use records::notice::Decided;
 use wires::ends::Ends;
 use wires::wire::Wire;
 
-// How many copies the line is to get, of what the port at its beginning decides.
+// How many copies the line is to get, of what the port at its beginning decides: none where there is no line.
 fn copies_to(notices: &[Decided], ends: Ends) -> usize
     ensures { result ≡ length (copies_on ends.from notices.now ends.from ends.to) }
 {

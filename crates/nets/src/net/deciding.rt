@@ -26,6 +26,7 @@ fn copy_into(working: &mut [Decided], notices: &[Decided])
 impl<W: Wire, B: Board> Net<W, B> {
     // The port decides its next batch, the undecided notices up to the cuts, and sends it. The batch stands in front in
     // the working list; the answer is how many notices it has and how many copies of them are on their way.
+    // (Four cuts, one for each of a port's dispatchers, are a rule.)
     pub fn decide(
         &mut self,
         port: u8,
