@@ -1,5 +1,4 @@
-// Runs the event stream on standard input on a net over the row wire and the first-come board, and prints a line for each
-// field.
+// The program on a stream whose third field is damaged: a release of two bytes. What comes before it is run and printed.
 #![tactic(auto)]
 
 use boards::first_come::FirstCome;
