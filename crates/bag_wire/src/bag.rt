@@ -1,23 +1,25 @@
 // A wire of one journal for all lines.
-ghost use Rattle.std.specs.Prelude.{◌≡◌, ℕ, length, refl};
+ghost use Rattle.std.specs.Prelude.{◌≡◌, ◌≤◌, ℕ, length, refl, take};
 ghost use Rattle.bag_wire.specs.Fits.{arrived_fits, held_fits};
 ghost use Rattle.bag_wire.specs.Journals.{kept, Sound};
 ghost use Rattle.wires.specs.Lines.{depth_of, PutAnswers, Brought, Emptied};
 ghost use Rattle.std.proofs.lemmas.Bool.{leb-true};
 
 use crate::entry::Entry;
-use crate::journal::{count, first, mark};
-use arrayvec::ArrayVec;
+use crate::journal::{count, first, mark, move_behind};
 use records::fault::NetFault;
 use records::notice::Record;
 use wires::ends::Ends;
 use wires::wire::Wire;
 
-// The entries of all lines, in the order of putting. Eight on each of 56 lines fill it.
+// The journal is the first `len` entries, those of all lines in the order of putting. Eight on each of 56 lines fill it. It is an
+// array and its length, since the library's vector of fixed capacity writes over each entry that it forgets, and emptying a wire
+// shall not take longer the more it holds.
 #[derive(Drop)]
 pub struct BagWire {
-    journal: ArrayVec<Entry, 448>,
-    ghost sound: { Sound journal.items },
+    entries: [Entry; 448],
+    len: usize,
+    ghost ok: { (length entries ≡ 448) × (len ≤ 448) × Sound (take len entries) },
 }
 
 impl BagWire {
@@ -27,7 +29,8 @@ impl BagWire {
         ensures { Emptied (bag_lines result) }
     {
         BagWire {
-            journal: ArrayVec::new(),
+            entries: [Entry::default(); 448],
+            len: 0,
         }
     }
 }
@@ -49,9 +52,9 @@ impl Wire for BagWire {
 
     ghost depths = { (leb-true 4 8 refl, leb-true 8 16 refl) };
 
-    ghost arrived = { λ w p q. arrived_fits (kept w.journal.items p q) };
+    ghost arrived = { λ w p q. arrived_fits (kept (take w.len w.entries) p q) };
 
-    ghost fits = { λ w p q. held_fits (kept w.journal.items p q) _ (w.sound p q) };
+    ghost fits = { λ w p q. held_fits (kept (take w.len w.entries) p q) _ (w.ok.2 p q) };
 
     fn put(&mut self, ends: Ends, record: Record) -> Result<(), NetFault>
         ensures does { PutAnswers 8 (bag_lines self.old) (bag_lines self.new) ends.from ends.to «record» result }
@@ -60,19 +63,23 @@ impl Wire for BagWire {
         if self.free(ends) == 0 {
             return Err(NetFault::LineFull);
         }
-        self.journal.push(Entry::fresh(ends, record));
+        self.entries[self.len] = Entry::fresh(ends, record);
+        self.len += 1;
         Ok(())
     }
 
     fn look(&self, ends: Ends) -> Option<Record> {
-        let i = first(&self.journal, ends)?;
-        self.journal[i].shown()
+        let i = first(&self.entries[0..self.len], ends)?;
+        self.entries[i].shown()
     }
 
     fn take(&mut self, ends: Ends) -> Option<Record> {
-        let i = first(&self.journal, ends)?;
-        let record = self.journal[i].shown()?;
-        self.journal.remove(i);
+        let i = first(&self.entries[0..self.len], ends)?;
+        let oldest = self.entries[i];
+        let record = oldest.shown()?;
+        // the entry goes behind the last one, and the journal ends before it
+        move_behind(&mut self.entries[i..self.len]);
+        self.len -= 1;
         Some(record)
     }
 
@@ -80,14 +87,14 @@ impl Wire for BagWire {
         ensures does { Brought (bag_lines self.old) (bag_lines self.new) ends.from ends.to }
         ensures all { (bag_lines self.new ends.from ends.to).arrived ≡ length (bag_lines self.new ends.from ends.to).held }
     {
-        mark(&mut self.journal, ends);
+        mark(&mut self.entries[0..self.len], ends);
     }
 
     fn free(&self, ends: Ends) -> usize {
-        depth(ends) - count(&self.journal, ends)
+        depth(ends) - count(&self.entries[0..self.len], ends)
     }
 
     fn empty(&mut self) {
-        self.journal.clear();
+        self.len = 0;
     }
 }

@@ -1,5 +1,5 @@
-// What is found and marked in a journal, oldest entry first.
-ghost use Rattle.std.specs.Prelude.{◌≡◌, [], map, length, MatchOption};
+// What is found, marked and moved in a journal, oldest entry first.
+ghost use Rattle.std.specs.Prelude.{◌≡◌, ◌<◌, [], ◌++◌, map, length, take, drop, MatchOption};
 ghost use Rattle.bag_wire.specs.Journals.{kept, marked, First};
 
 use crate::entry::Entry;
@@ -29,4 +29,12 @@ pub fn mark(entries: &mut [Entry], ends: Ends)
             entry.arrived = true;
         }
     }
+}
+
+// Moves the first entry behind the others, which keep their order.
+pub fn move_behind(entries: &mut [Entry])
+    requires { 0 < length entries.old }
+    ensures { entries.new ≡ drop 1 entries.old ++ take 1 entries.old }
+{
+    entries.rotate_left(1);
 }

@@ -4,6 +4,6 @@
 
 pub mod bag; // the wire
 mod entry; // one record in the journal
-mod journal; // what is found and marked in it
+mod journal; // what is found, marked and moved in it
 
 pub use bag::BagWire;

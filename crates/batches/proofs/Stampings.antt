@@ -1,9 +1,10 @@
 -- A loop that stamps what passes: its invariant, a turn of it and its end. Assumes nothing.
-use Rattle.std.proofs.Common.{◌≡◌, ℕ, ◌+◌, Bool, true, false, not, ◌&&◌, List, [], ◌∷◌, ◌++◌, length, Some, None, Option, sym, refl, ap, ◌∙◌, subst, arith}
+use Rattle.std.proofs.Common.{◌≡◌, ℕ, ◌+◌, true, false, not, ◌&&◌, List, [], ◌∷◌, ◌++◌, length, Some, None, Option, sym, refl, ap, ◌∙◌, subst, arith}
 use Rattle.std.proofs.lemmas.List.{append_assoc, append-nil, length-append}
-use Rattle.std.proofs.lemmas.Bool.{and_parts, and_from, and_left, cond-false, not-true, not_from_false}
+use Rattle.std.proofs.lemmas.Bool.{and_parts, and_from, and_left, not_from_false}
 use Rattle.std.proofs.lemmas.Bool.Decides.{nat_tests}
 use Rattle.ordered.specs.Orders.{all_pass, placed}
+use Rattle.ordered.proofs.Lasts.{placed_behind}
 use Rattle.ordered.proofs.Rises.{all_placed}
 use Rattle.records.specs.Keys.{pair_before, decided_before}
 use Rattle.records.specs.declared.notice.Decided.{Decided}
@@ -51,13 +52,6 @@ at_most_next (Some p) clock ds h = all_under p (next_pair (Some p) clock) ds (ri
 not_itself : (p : Pair) → not (pair_before p p) ≡ true
 not_itself p = grind (arith, nat_tests)
 
--- an entry behind all that it is not before
-placed_last : (before : Decided → Decided → Bool) (x : Decided) (ys : List Decided) → all_pass (λ y. not (before x y)) ys ≡ true → placed before x ys ≡ ys ++ x ∷ []
-placed_last before x [] h = refl
-placed_last before x (y ∷ ys) h =
-    let both = and_parts (not (before x y)) (all_pass (λ y. not (before x y)) ys) h in
-    cond-false (before x y) _ _ (not-true (before x y) both.0) ∙ ap (λ zs. y ∷ zs) (placed_last before x ys both.1)
-
 -- those made, and what the notices `rest` still give above the floor `last`, are all
 pub record Going (port : ℕ) (first : Option Pair) (all : List Decided) (last : Option Pair) (out : List Decided) (rest : List Handed) : Type 0 where
   pub made : out ++ stamped port last rest ≡ all
@@ -69,7 +63,7 @@ module _ {port : ℕ} {first last : Option Pair} {all out new : List Decided} wh
   going_more n pair rest g at e small put =
       let p = next_pair last n.clock in
       let x = stamped_by port p n in
-      let is : new ≡ out ++ x ∷ [] = put ∙ ap (λ q. placed decided_before (stamped_by port q n) out) e ∙ placed_last decided_before x out (not_before port n last out at) in (
+      let is : new ≡ out ++ x ∷ [] = put ∙ ap (λ q. placed decided_before (stamped_by port q n) out) e ∙ placed_behind decided_before x out (not_before port n last out at) in (
         ap length is ∙ length-append out (x ∷ []),
         subst (λ q. AtMost (Some q) new) (sym e) (ap (all_pass (λ d. not (pair_before p d.stamp.pair))) (put ∙ ap (λ q. placed decided_before (stamped_by port q n) out) e) ∙ all_placed decided_before x (λ d. not (pair_before p d.stamp.pair)) out (at_most_next last n.clock out at) (not_itself p)),
         subst (λ q. Going port first all (Some q) new rest) (sym e) record {

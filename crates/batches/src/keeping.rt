@@ -1,6 +1,6 @@
-// What a batch takes of the undecided notices.
-ghost use Rattle.std.specs.Prelude.{◌≡◌};
-ghost use Rattle.model.specs.Batches.{within};
+// What a batch takes of the undecided notices, and what it leaves.
+ghost use Rattle.std.specs.Prelude.{◌≡◌, ◌≤◌, length, take};
+ghost use Rattle.model.specs.Batches.{within, left};
 
 use records::notice::Handed;
 
@@ -13,4 +13,21 @@ pub fn is_within(notice: &Handed, cuts: &[u16; 4]) -> bool
         .copied()
         .unwrap_or(0);
     notice.notice.count <= cut
+}
+
+// Moves the notices above their cuts to the front, in their order, and tells how many they are.
+pub fn keep_left(notices: &mut [Handed], cuts: &[u16; 4]) -> usize
+    ensures kept { take result notices.new ≡ left cuts.now notices.old }
+    ensures few { result ≤ length notices.old }
+{
+    // by places, since what is kept moves within the slice that is walked
+    let mut k = 0;
+    for i in 0..notices.len() {
+        let n = notices[i];
+        if !is_within(&n, cuts) {
+            notices[k] = n;
+            k += 1;
+        }
+    }
+    k
 }

@@ -3,4 +3,4 @@
 
 pub mod batch; // the notices of a decide, with their stamps
 pub mod counting; // how many notices go to a port or come from one, and how many copies they make
-pub mod keeping; // whether a batch takes an undecided notice
+pub mod keeping; // what a batch takes of the undecided notices, and what it leaves

@@ -6,8 +6,7 @@ mod tests {
     use batches::batch::stamping::next_pair;
     use batches::batch::{Batch, BatchFault};
     use batches::counting::{copies, count_for, count_from};
-    use batches::keeping::is_within;
-    use ordered::Sorted;
+    use batches::keeping::keep_left;
     use records::mask::Mask;
     use records::notice::{Action, Decided, Handed, Notice};
     use records::stamp::{Pair, Stamp};
@@ -113,26 +112,18 @@ mod tests {
 
     #[test]
     fn what_it_leaves(rt: HostRuntime) {
-        let undecided = [
+        let mut notices = [
             handed(0, 1, 90, 3),
             handed(2, 5, 90, 3),
             handed(0, 2, 95, 3),
             handed(3, 1, 200, 3),
         ];
-        let mut notices: Sorted<Handed, 16> = Sorted::new();
-        for n in undecided {
-            assert!(rt; notices.insert(n).is_ok());
-        }
-        notices.retain(|n| !is_within(n, &[1, 0, 4, 0]));
-        let left = notices.as_slice();
-        assert_eq!(rt; left.len(), 3);
-        assert_eq!(rt; left[0].notice.dispatcher, 2);
-        assert_eq!(rt; left[1].notice.count, 2);
-        assert_eq!(rt; left[2].notice.dispatcher, 3);
-        notices.retain(|n| !is_within(n, &[9, 9, 9, 9]));
-        assert_eq!(rt; notices.as_slice().len(), 0);
-        notices.retain(|n| !is_within(n, &[0, 0, 0, 0]));
-        assert_eq!(rt; notices.as_slice().len(), 0);
+        assert_eq!(rt; keep_left(&mut notices, &[1, 0, 4, 0]), 3);
+        assert_eq!(rt; notices[0].notice.dispatcher, 2);
+        assert_eq!(rt; notices[1].notice.count, 2);
+        assert_eq!(rt; notices[2].notice.dispatcher, 3);
+        assert_eq!(rt; keep_left(&mut notices[0..3], &[9, 9, 9, 9]), 0);
+        assert_eq!(rt; keep_left(&mut [], &[0, 0, 0, 0]), 0);
     }
 
     #[test]

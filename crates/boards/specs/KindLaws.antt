@@ -1,12 +1,14 @@
 -- The laws of the two rules. Assumes nothing.
-use Rattle.std.specs.Prelude.{◌≡◌, ℕ, ◌<◌, ◌≤◌, true, false, ◌||◌, [], ◌∷◌, ◌++◌, length, ◌≢◌, nat_le, refl}
-use Rattle.std.proofs.Common.{sym, ap, ◌∙◌, subst, lit<, le_trans, lt_irrefl, add-one}
+use Rattle.std.specs.Prelude.{◌≡◌, ℕ, ◌<◌, ◌≤◌, true, false, ◌||◌, [], ◌∷◌, ◌++◌, length, ◌==◌, ◌≢◌, nat_le, refl}
+use Rattle.std.proofs.Common.{sym, ap, ◌∙◌, subst, lit<, zero-le, le_trans, lt_irrefl, add-one}
 use Rattle.std.proofs.lemmas.List.{length_push}
-use Rattle.std.proofs.lemmas.Bool.{cond_both, le-leb, leb-true, leb-false, or_parts}
+use Rattle.std.proofs.lemmas.Bool.{cond_both, le-leb, leb-true, leb-false, or_parts, or_from, ne_eqb, eqb-false}
 use Rattle.records.specs.declared.notice.Action.TheVariants.{Take, Leave}
 use Rattle.boards.specs.declared.outcome.Outcome.TheVariants.{Alongside, Gone, Clash, Waits}
 use Rattle.boards.specs.Rules.{outcome_number, Vessels, Turn, listed, once, without, Leaves, FirstStays, StaysOnce, ClashIsSame, StaysHeld}
 use Rattle.boards.specs.Kinds.{clash, berthed, left, taken_last, first_come, queue, at_most}
+use Rattle.boards.specs.Shown.{Proper}
+use Rattle.boards.specs.Places.{alone}
 use Rattle.boards.specs.ListLaws.{without_other, not_listed_without, once_without, without_listed, shorter, once_push, not_empty, push_longer}
 
 -- the outcome is a clash exactly when the list is that one
@@ -104,3 +106,9 @@ pub queue_held : StaysHeld (at_most 4) queue
 queue_held [] Take v f _ = refl
 queue_held (x ∷ xs) Take v f _ = by_last (λ t. at_most 4 t.list ≡ true) x xs v f.0 (λ _ few. le-leb (length (x ∷ xs ++ v ∷ [])) 4 (subst (λ n. n ≤ 4) (sym (length_push (x ∷ xs) v ∙ add-one (length (x ∷ xs)))) few))
 queue_held l Leave v f _ = held_left 4 l v f.0
+
+pub proper_none : (n : ℕ) → Proper (at_most n) []
+proper_none n = record { held = le-leb 0 n zero-le; apart = refl; named = refl }
+
+pub proper_alone : (v : ℕ) → Proper (at_most 1) (alone v)
+proper_alone v = cond_both (v == 0) [] (v ∷ []) (Proper (at_most 1)) (λ _. proper_none 1) (λ some. record { held = refl; apart = refl; named = or_from (0 == v) false (ne_eqb 0 v (λ e. eqb-false v 0 some (sym e))) refl })

@@ -1,5 +1,5 @@
 -- The rules of the first-come board and of the queue board. Assumes nothing.
-use Rattle.std.specs.Prelude.{ℕ, Bool, cond, ◌||◌, [], ◌∷◌, ◌++◌, length, nat_le}
+use Rattle.std.specs.Prelude.{ℕ, Bool, cond, ◌||◌, [], ◌∷◌, ◌++◌, length, ◌==◌, nat_le}
 use Rattle.records.specs.declared.notice.Action.TheVariants.{Take, Leave}
 use Rattle.boards.specs.Rules.{Vessels, Turn, Rule, listed, without}
 use Rattle.boards.specs.declared.outcome.Outcome.TheVariants.{Alongside, Gone, Clash, Waits}
@@ -7,6 +7,10 @@ use Rattle.boards.specs.declared.outcome.Outcome.TheVariants.{Alongside, Gone, C
 -- the list stays as it was
 abbrev pub clash : Vessels → Turn
 clash l = record { list = l; outcome = Clash }
+
+-- what the rule makes of a vessel; 0 is none, and clashes
+abbrev pub named : Rule → Rule
+named rule l a v = cond (v == 0) (clash l) (rule l a v)
 
 -- the vessel has the berth, alone
 abbrev pub berthed : ℕ → Turn

@@ -1,5 +1,6 @@
 // The list that a kind of board keeps of one berth.
-ghost use Rattle.std.specs.Prelude.{◌≡◌, ◌<◌, Bool, true, []};
+ghost use Rattle.std.specs.Prelude.{◌≡◌, Bool, true, []};
+ghost use Rattle.boards.specs.Kinds.{named};
 ghost use Rattle.boards.specs.Rules.{Vessels, Rule, TakesAlone, Leaves, FirstStays, StaysOnce, ClashIsSame, StaysHeld};
 ghost use Rattle.boards.specs.Shown.{Proper};
 
@@ -26,11 +27,10 @@ pub trait Berth {
     fn as_slice(&self) -> &[u16]
         ensures { result.now ≡ vessels self.now };
 
-    // What a notice makes of the berth.
+    // What a notice makes of the berth. Vessel 0 is none: it changes nothing and is a clash.
     fn turn(&mut self, action: Action, vessel: u16) -> Outcome
-        requires { 0 < vessel }
-        ensures list { vessels self.new ≡ (rule (vessels self.old) action vessel).list }
-        ensures outcome { result ≡ (rule (vessels self.old) action vessel).outcome };
+        ensures list { vessels self.new ≡ (named rule (vessels self.old) action vessel).list }
+        ensures outcome { result ≡ (named rule (vessels self.old) action vessel).outcome };
 
     ghost alone: { TakesAlone rule };
 

@@ -1,27 +1,26 @@
 // The first-come board: a berth has one vessel or none, and nobody waits.
 ghost use Rattle.std.specs.Prelude.{◌≡◌, refl};
-ghost use Rattle.std.specs.Option.{option_to_list};
 ghost use Rattle.boards.specs.Kinds.{first_come, at_most};
-ghost use Rattle.boards.specs.Shown.{Proper};
+ghost use Rattle.boards.specs.Places;
 
 use crate::berth::Berth;
 use crate::berths::Berths;
 use crate::outcome::Outcome;
 use records::notice::Action;
+use std::slice;
 
 pub type FirstCome = Berths<FirstComeBerth>;
 
-// The vessel alongside, if there is one.
+// The vessel alongside, 0 where there is none: no vessel has that number, and an `Option` of it would take twice the memory.
 #[derive(Drop)]
 pub struct FirstComeBerth {
-    alongside: Option<u16>,
-    ghost proper: { Proper (at_most 1) (option_to_list alongside) },
+    alongside: u16,
 }
 
 impl Berth for FirstComeBerth {
-    ghost use Rattle.boards.specs.KindLaws.{first_come_leaves, first_come_first, first_come_once, first_come_clash, first_come_held};
+    ghost use Rattle.boards.specs.KindLaws.{first_come_leaves, first_come_first, first_come_once, first_come_clash, first_come_held, proper_alone};
 
-    ghost vessels = { λ b. option_to_list b.alongside };
+    ghost vessels = { λ b. Places.alone b.alongside };
 
     ghost rule = { first_come };
 
@@ -41,27 +40,39 @@ impl Berth for FirstComeBerth {
 
     ghost none_held = { refl };
 
-    ghost proper = { λ b. b.proper };
+    ghost proper = { λ b. proper_alone b.alongside };
 
     fn new() -> Self {
-        FirstComeBerth { alongside: None }
+        FirstComeBerth { alongside: 0 }
     }
 
     fn as_slice(&self) -> &[u16] {
-        self.alongside.as_slice()
+        if self.alongside == 0 {
+            &[]
+        } else {
+            slice::from_ref(&self.alongside)
+        }
     }
 
     fn turn(&mut self, action: Action, vessel: u16) -> Outcome {
-        match (action, self.alongside) {
-            (Action::Take, None) => {
-                self.alongside = Some(vessel);
+        if vessel == 0 {
+            return Outcome::Clash;
+        }
+        match action {
+            Action::Take => {
+                if self.alongside != 0 {
+                    return Outcome::Clash;
+                }
+                self.alongside = vessel;
                 Outcome::Alongside
             }
-            (Action::Leave, Some(first)) if first == vessel => {
-                self.alongside = None;
+            Action::Leave => {
+                if self.alongside != vessel {
+                    return Outcome::Clash;
+                }
+                self.alongside = 0;
                 Outcome::Gone
             }
-            _ => Outcome::Clash,
         }
     }
 }

@@ -86,6 +86,9 @@ impl Berth for QueueBerth {
     }
 
     fn turn(&mut self, action: Action, vessel: u16) -> Outcome {
+        if vessel == 0 {
+            return Outcome::Clash;
+        }
         match action {
             Action::Take => self.take(vessel),
             Action::Leave => self.leave(vessel),

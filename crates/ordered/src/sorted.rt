@@ -1,7 +1,6 @@
 // An ordered list in memory of its own.
-ghost use Rattle.std.specs.Prelude.{⊤, ◌≡◌, ◌≤◌, Bool, [], length, take, filter};
-ghost use Rattle.std.specs.Fn.{FnReturnsAt};
-ghost use Rattle.ordered.specs.Orders.{Rising};
+ghost use Rattle.std.specs.Prelude.{⊤, ◌≡◌, ◌≤◌, true, not, [], length, take};
+ghost use Rattle.ordered.specs.Orders.{all_pass, Rising};
 
 use crate::entry::Entry;
 use crate::list::{Full, insert, take_first};
@@ -52,6 +51,13 @@ impl<T: Entry, const N: usize> Sorted<T, N> {
         &self.places[..self.len]
     }
 
+    // Whether x is above the last entry or equal to it; since the list rises, it is then before none.
+    fn goes_last(&self, x: &T) -> bool
+        ensures { result ≡ true → all_pass (λ y. not (T.before x.now y)) (entries_of self.now) ≡ true }
+    {
+        self.len == 0 || !x.is_before(&self.places[self.len - 1])
+    }
+
     // Puts the entry in its place, behind those with its own key, and answers the place; where there are N, it is refused.
     pub fn insert(&mut self, x: T) -> Result<usize, Full>
         ensures { Inserted x self.old self.new result }
@@ -59,6 +65,12 @@ impl<T: Entry, const N: usize> Sorted<T, N> {
         // tested here, so that a refusal leaves the whole value as it was
         if self.len == N {
             return Err(Full);
+        }
+        // what comes in order is put behind the others, with no search and no move
+        if self.goes_last(&x) {
+            self.places[self.len] = x;
+            self.len += 1;
+            return Ok(self.len - 1);
         }
         let at = insert(&mut self.places, self.len, x).unwrap();
         self.len += 1;
@@ -75,22 +87,5 @@ impl<T: Entry, const N: usize> Sorted<T, N> {
         let first = take_first(&mut self.places, self.len).unwrap();
         self.len -= 1;
         Some(first)
-    }
-
-    // Keeps the entries that pass the test, in their order. Written out, since std's and the library's `retain` are of vectors that
-    // can't be copied.
-    pub fn retain<F: Fn(&T) -> bool>(&mut self, test: F)
-        requires { F.IsAlwaysCallable test }
-        ensures { (passes : T → Bool) → ((x : T) (b : Bool) → FnReturnsAt F.Fn test x b → b ≡ passes x) → entries_of self.new ≡ filter passes (entries_of self.old) }
-    {
-        let mut places = self.places;
-        let mut len = 0;
-        for e in self.as_slice() {
-            if test(e) {
-                places[len] = *e;
-                len += 1;
-            }
-        }
-        *self = Sorted { places, len };
     }
 }

@@ -214,7 +214,7 @@ mod tests {
         assert_eq!(rt; take_first(&mut places, 0), None);
     }
 
-    // A list of three places in memory of its own: a fourth entry is refused, the first leaves, those of clock 20 stay.
+    // A list of three places in memory of its own: a fourth entry is refused, the first leaves, and another comes last.
     #[test]
     fn sorted_in_its_own_memory(rt: HostRuntime) {
         let mut list: Sorted<Handed, 3> = Sorted::new();
@@ -234,10 +234,14 @@ mod tests {
         );
         assert_eq!(rt; list.take_first(), Some(handed(10, 1, 5, 2)));
         assert_eq!(rt; list.insert(handed(30, 1, 5, 5)), Ok(2));
-        list.retain(|e| e.clock == 20);
         assert_eq!(rt;
             list.as_slice(),
-            [handed(20, 1, 5, 1), handed(20, 1, 5, 3)].as_slice()
+            [
+                handed(20, 1, 5, 1),
+                handed(20, 1, 5, 3),
+                handed(30, 1, 5, 5)
+            ]
+            .as_slice()
         );
     }
 }

@@ -26,6 +26,6 @@ impl Entry for Decided {
     ghost total = { total_then (λ x. x.stamp.pair.clock) _ _ (total_then (λ x. x.stamp.pair.step) _ _ (total_by (λ x. x.stamp.port))) };
 
     fn is_before(&self, other: &Self) -> bool {
-        self.stamp < other.stamp
+        self.stamp.is_before(other.stamp)
     }
 }

@@ -93,7 +93,7 @@ impl TableFault {
     pub fn number(self) -> u8
         ensures { result ≡ table_number self }
     {
-        self as u8
+        self as u8 // 1 or 2
     }
 }
 
@@ -128,7 +128,7 @@ impl ReaderFault {
     pub fn number(self) -> u8
         ensures { result ≡ reader_number self }
     {
-        self as u8
+        self as u8 // 20 to 25
     }
 }
 
@@ -136,6 +136,6 @@ impl OutputFault {
     pub fn number(self) -> u8
         ensures { result ≡ output_number self }
     {
-        self as u8
+        self as u8 // 20 or 26
     }
 }

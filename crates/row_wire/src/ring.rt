@@ -78,4 +78,11 @@ impl<T: Copy, const N: usize> Ring<T, N> {
         self.len -= 1;
         Some(item)
     }
+
+    // Forgets all items: the slots stay as they are, and are used anew.
+    pub fn clear(&mut self)
+        ensures { self.new ≡ [] }
+    {
+        self.len = 0;
+    }
 }

@@ -95,6 +95,8 @@ impl Wire for RowWire {
         ensures does { Emptied (row_lines self.new) }
         ensures all { AllArrived (row_lines self.new) }
     {
-        *self = RowWire::new();
+        for ring in self.rings.iter_mut() {
+            ring.clear();
+        }
     }
 }

@@ -15,7 +15,7 @@ use records::stamp::Pair;
 fn holds(clearance: Option<Pair>, pair: Pair) -> bool
     ensures { result ≡ holds clearance pair }
 {
-    clearance < Some(pair)
+    clearance.is_none_or(|clearance| clearance.is_before(pair))
 }
 
 // The floor with one more pair among those that it is the highest of.

@@ -39,6 +39,13 @@ impl Undecided {
     pub(crate) fn keep(&mut self, cuts: &[u16; 4])
         ensures { undecided_of self.new ≡ left cuts.now (undecided_of self.old) }
     {
-        self.notices.retain(|n| !is_within(n, cuts));
+        let mut stay = Sorted::new();
+        for n in self.list() {
+            if !is_within(n, cuts) {
+                // it is behind those that stay before it, and they are fewer than 16
+                stay.insert(*n).unwrap();
+            }
+        }
+        self.notices = stay;
     }
 }
