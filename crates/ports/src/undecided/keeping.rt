@@ -1,13 +1,29 @@
 // Adding a notice, and what a batch leaves.
 ghost use Rattle.model.specs.Batches.{left};
+ghost use Rattle.ordered.specs.Orders.{Rising};
+ghost use Rattle.ordered.specs.Sorted.{entries_of};
 ghost use Rattle.ports.specs.Held.{undecided_of, Adds};
+ghost use Rattle.records.specs.Keys.{handed_before};
 ghost use Rattle.std.specs.Prelude.{◌≡◌, ◌≤◌, [], length};
 
 use crate::undecided::Undecided;
-use batches::keeping::is_within;
+use batches::keeping::keep_left;
 use ordered::Sorted;
 use records::fault::NetFault;
 use records::notice::Handed;
+
+// A list of these notices, which are few and rise: each comes behind those put before it.
+fn listed(notices: &[Handed]) -> Sorted<Handed, 16>
+    requires few { length notices.now ≤ 16 }
+    requires rises { Rising handed_before notices.now }
+    ensures { entries_of result ≡ notices.now }
+{
+    let mut list = Sorted::new();
+    for n in notices {
+        list.insert(*n).unwrap();
+    }
+    list
+}
 
 impl Undecided {
     pub(crate) fn new() -> Undecided
@@ -39,13 +55,10 @@ impl Undecided {
     pub(crate) fn keep(&mut self, cuts: &[u16; 4])
         ensures { undecided_of self.new ≡ left cuts.now (undecided_of self.old) }
     {
-        let mut stay = Sorted::new();
-        for n in self.list() {
-            if !is_within(n, cuts) {
-                // it is behind those that stay before it, and they are fewer than 16
-                stay.insert(*n).unwrap();
-            }
-        }
-        self.notices = stay;
+        let mut notices = [Handed::default(); 16];
+        let len = self.list().len();
+        notices[..len].copy_from_slice(self.list());
+        let count = keep_left(&mut notices[..len], cuts);
+        self.notices = listed(&notices[..count]);
     }
 }
