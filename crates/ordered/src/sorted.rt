@@ -1,5 +1,6 @@
 // An ordered list in memory of its own.
-ghost use Rattle.std.specs.Prelude.{⊤, ◌≡◌, ◌≤◌, true, not, [], length, take};
+ghost use Rattle.std.specs.Prelude.{⊤, ◌≡◌, ◌≤◌, Bool, true, not, [], length, take, filter};
+ghost use Rattle.std.specs.Fn.{FnReturnsAt};
 ghost use Rattle.ordered.specs.Orders.{all_pass, Rising};
 
 use crate::entry::Entry;
@@ -87,5 +88,22 @@ impl<T: Entry, const N: usize> Sorted<T, N> {
         let first = take_first(&mut self.places, self.len).unwrap();
         self.len -= 1;
         Some(first)
+    }
+
+    // Keeps the entries that pass the test, in their order. Written out, since std's and the library's `retain` are of vectors that
+    // can't be copied. It asks that the test may be called: no test that is handed in can be called without.
+    pub fn retain<F: Fn(&T) -> bool>(&mut self, test: F)
+        requires { F.IsAlwaysCallable test }
+        ensures { (passes : T → Bool) → ((x : T) (b : Bool) → FnReturnsAt F.Fn test x b → b ≡ passes x) → entries_of self.new ≡ filter passes (entries_of self.old) }
+    {
+        let mut places = self.places;
+        let mut len = 0;
+        for e in self.as_slice() {
+            if test(e) {
+                places[len] = *e;
+                len += 1;
+            }
+        }
+        *self = Sorted { places, len };
     }
 }

@@ -214,7 +214,8 @@ mod tests {
         assert_eq!(rt; take_first(&mut places, 0), None);
     }
 
-    // A list of three places in memory of its own: a fourth entry is refused, the first leaves, and another comes last.
+    // A list of three places in memory of its own: a fourth entry is refused, the first leaves, another comes last, and those of
+    // clock 20 stay; then none does.
     #[test]
     fn sorted_in_its_own_memory(rt: HostRuntime) {
         let mut list: Sorted<Handed, 3> = Sorted::new();
@@ -243,5 +244,14 @@ mod tests {
             ]
             .as_slice()
         );
+        list.retain(|e| e.clock == 20);
+        assert_eq!(rt;
+            list.as_slice(),
+            [handed(20, 1, 5, 1), handed(20, 1, 5, 3)].as_slice()
+        );
+        list.retain(|e| e.clock < 20);
+        assert_eq!(rt; list.take_first(), None);
+        list.retain(|_| true);
+        assert_eq!(rt; list.take_first(), None);
     }
 }
