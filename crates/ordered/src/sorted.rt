@@ -91,7 +91,7 @@ impl<T: Entry, const N: usize> Sorted<T, N> {
     }
 
     // Keeps the entries that pass the test, in their order. Written out, since std's and the library's `retain` are of vectors that
-    // can't be copied. It asks that the test may be called: no test that is handed in can be called without.
+    // can't be copied. It asks that the test may be called, as whoever calls a closure that is handed in has to.
     pub fn retain<F: Fn(&T) -> bool>(&mut self, test: F)
         requires { F.IsAlwaysCallable test }
         ensures { (passes : T → Bool) → ((x : T) (b : Bool) → FnReturnsAt F.Fn test x b → b ≡ passes x) → entries_of self.new ≡ filter passes (entries_of self.old) }
